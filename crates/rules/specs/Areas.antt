@@ -1,0 +1,132 @@
+-- The area, its recovery page R, damaged and ready, the map and live words: document 01, "Words, pages, area". The run is the list
+-- of its words. Definitions alone. Assumes nothing.
+use mathlib.Core.List.{List, [], _∷_, _++_}
+use mathlib.Core.Bool.{Bool, true, false, cond, not, _&&_, _||_}
+use mathlib.Core.Option.{Option, some, none}
+use Prim.Native.Nat.{ℕ, suc, zero, _+_, _*_}
+use lib.ListN.{getD, take, drop}
+use lib.Dec.{ltb, eqb}
+use Rattle.flash.specs.Stores.{blank}
+use Rattle.rules.specs.declared.Area.{Area}
+use Rattle.rules.specs.Words.{indexOf, isLive}
+use Rattle.rules.specs.Walk.{Item, entryLength, items, allBlank, Kind, kindOf, isSealed, isSound}
+
+-- ---- pages, index 0 upward, and after them R, all in one run
+abbrev pub R : Area → ℕ
+R a = a .pages
+
+unfoldable pub base : Area → ℕ → ℕ
+base a i = i * a .words
+
+unfoldable pub page : Area → List ℕ → ℕ → List ℕ
+page a f i = take (a .words) (drop (base a i) f)
+
+abbrev pub kind : Area → List ℕ → ℕ → Kind
+kind a f i = kindOf (a .pages) i (page a f i)
+
+-- n pages from the index i on
+abbrev pub every : (ℕ → Bool) → ℕ → ℕ → Bool
+every t zero i = true
+every t (suc n) i = t i && every t n (suc i)
+
+-- ---- R
+pub data Recovery : Type 0 where
+  free : Recovery
+  unfinished : Recovery
+  committed : ℕ → Recovery
+  damage : Recovery
+
+-- free if all blank; unfinished if word 1 is blank and some other word is not; committed if a sealed page with count n and an index
+-- below n; any other R is damage
+unfoldable pub recoveryOf : ℕ → List ℕ → Recovery
+recoveryOf n r =
+    let w = getD r 1 0 in
+    cond (allBlank r) free (cond (eqb w blank) unfinished (cond (ltb (indexOf w) n && isSealed (kindOf n (indexOf w) r)) (committed (indexOf w)) damage))
+
+abbrev pub recovery : Area → List ℕ → Recovery
+recovery a f = recoveryOf (a .pages) (page a f (R a))
+
+abbrev pub isFree : Recovery → Bool
+isFree free = true
+isFree unfinished = false
+isFree (committed j) = false
+isFree damage = false
+
+abbrev pub isDamage : Recovery → Bool
+isDamage free = false
+isDamage unfinished = false
+isDamage (committed j) = false
+isDamage damage = true
+
+-- the page that a committed R names
+abbrev pub names : Recovery → ℕ → Bool
+names free i = false
+names unfinished i = false
+names (committed j) i = eqb i j
+names damage i = false
+
+-- ---- entries in area order: page, then place; each with the place of its header in the run
+pub record Entry : Type 0 where
+  pub place : ℕ
+  pub handle : ℕ
+  pub words : List ℕ
+
+abbrev pub placed : ℕ → List Item → List Entry
+placed at [] = []
+placed at (e ∷ es) = record { place = at; handle = e .handle; words = e .words } ∷ placed (at + entryLength (e .words)) es
+
+abbrev pub pageEntries : Area → List ℕ → ℕ → List Entry
+pageEntries a f i = placed (base a i + 2) (items (page a f i))
+
+abbrev pub entriesFrom : Area → List ℕ → ℕ → ℕ → List Entry
+entriesFrom a f zero i = []
+entriesFrom a f (suc n) i = pageEntries a f i ++ entriesFrom a f n (suc i)
+
+unfoldable pub entries : Area → List ℕ → List Entry
+entries a f = entriesFrom a f (a .pages) 0
+
+-- whether an entry passes a test, and the first one that does
+abbrev pub anyOf : (Entry → Bool) → List Entry → Bool
+anyOf t [] = false
+anyOf t (e ∷ es) = t e || anyOf t es
+
+abbrev pub firstOf : (Entry → Bool) → List Entry → Option Entry
+firstOf t [] = none
+firstOf t (e ∷ es) = cond (t e) (some e) (firstOf t es)
+
+-- the entry has the handle h
+abbrev pub hasHandle : ℕ → Entry → Bool
+hasHandle h e = eqb (e .handle) h
+
+-- a live entry with a later one of the same handle
+abbrev pub doubled : Entry → List Entry → Bool
+doubled e es = isLive (e .handle) && anyOf (hasHandle (e .handle)) es
+
+-- some handle is live twice
+abbrev pub twice : List Entry → Bool
+twice [] = false
+twice (e ∷ es) = doubled e es || twice es
+
+-- ---- damaged if R is, or if a page is neither sealed nor torn, except the page a committed R names
+unfoldable pub damaged : Area → List ℕ → Bool
+damaged a f = isDamage (recovery a f) || not (every (λ i. names (recovery a f) i || isSound (kind a f i)) (a .pages) 0)
+
+-- ---- ready if R is free, all pages are sealed, and no handle is live twice
+unfoldable pub ready : Area → List ℕ → Bool
+ready a f = isFree (recovery a f) && (every (λ i. isSealed (kind a f i)) (a .pages) 0 && not (twice (entries a f)))
+
+-- ---- the map of a ready area gives each live handle its data
+abbrev pub find : ℕ → List Entry → Option Entry
+find h es = firstOf (hasHandle h) es
+
+abbrev pub dataOf : Option Entry → Option (List ℕ)
+dataOf none = none
+dataOf (some e) = some (e .words)
+
+unfoldable pub mapOf : Area → List ℕ → ℕ → Option (List ℕ)
+mapOf a f h = cond (isLive h) (dataOf (find h (entries a f))) none
+
+-- ---- live words: the lengths of live entries, summed
+abbrev pub liveWords : List Entry → ℕ
+liveWords [] = 0
+liveWords (e ∷ es) = cond (isLive (e .handle)) (entryLength (e .words)) 0 + liveWords es
