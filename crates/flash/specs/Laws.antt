@@ -1,18 +1,20 @@
--- The laws of running a list of stores under power: what `Ran` allows is exactly the first k stores, one outcome and no other, and how
--- steps compose whose stores are read off the flash as the steps before left it. Assumes nothing.
+-- The laws of running a list of stores under power: what `Ran` allows is exactly the first k stores, in one outcome and no other, and
+-- how steps compose whose stores are read off the flash as the steps before left it. Assumes nothing.
 use mathlib.Core.Path.{_≡_, refl, ap, sym, _∙_}
 use mathlib.Core.List.{List, [], _∷_, _++_}
 use mathlib.Core.Bool.{Bool, true, false, _||_, or-false, or-true}
 use mathlib.Core.Logic.{_↔_, ⊎-elim, _⊎_, inl, inr}
 use Prim.Native.Nat.{ℕ, suc, zero, _+_, _-_, _≤_, _<_, zero-le, suc-le-suc, min}
 use native.Mathlib.Omega.{arith}
+use native.Mathlib.Nat.{le-refl, le-trans}
 use native.Mathlib.Numerals.{add-one}
-use lib.ListN.{length, take, set, replicate, length-append}
-use lib.Seq.{take-all, take-nil, sets, set-out}
+use lib.ListN.{length, getD, take, set, replicate, length-append, length-set}
+use lib.Seq.{take-all, take-nil, sets, length-sets, set-out}
+use lib.Bits.{bitAnd, and-le-l}
 use lib.Dec.{ltb}
 use borrow.Author.Tests.{lt-ltb, le-ltb}
 use Rattle.flash.specs.declared.Power.{Power}
-use Rattle.flash.specs.Stores.{blank, Store, stored, wiped, apply, made, madeFirst, _then_, each, spent, Ran}
+use Rattle.flash.specs.Stores.{blank, Words, none, more, Store, put, wipe, stored, wiped, apply, made, madeFirst, _then_, each, spent, Ran}
 
 -- two answers that a promise fixes by one and the same definition are equal
 pub settled : {A : Type 0} {x r s : A} → r ≡ x → s ≡ x → r ≡ s
@@ -98,7 +100,7 @@ spent-more p a b c same = ⊎-elim enough short (le-or-lt a (p .left))
 
 -- ---- what Ran allows
 -- demand 2: with power for k stores, exactly the first k of the list are made, or all of them if there are fewer; as many are
--- counted, and the cut is noted just when the list is longer
+-- counted; and the cut is noted just when the list is longer, or it was noted before
 pub first-stores : (ss : List Store) (p : Power) (f : List ℕ) (q : Power) (g : List ℕ)
     → Ran ss p f q g
     ↔ ((g ≡ made (take (p .left) ss) f) × (q .left + min (p .left) (length ss) ≡ p .left) × (q .cut ≡ (p .cut || ltb (p .left) (length ss))))
@@ -112,7 +114,10 @@ first-stores ss p f q g = (
       record { power = power≡ (omega arith) (x .2); words = x .0 },
 )
 
--- one outcome and no other
+-- one outcome, and no other
+pub ran-some : (ss : List Store) (p : Power) (f : List ℕ) → Ran ss p f (spent p (length ss)) (madeFirst (p .left) ss f)
+ran-some ss p f = record { power = refl; words = refl }
+
 pub ran-settles : {ss : List Store} {p : Power} {f : List ℕ} {q r : Power} {g h : List ℕ} → Ran ss p f q g → Ran ss p f r h → (q ≡ r) × (g ≡ h)
 ran-settles x y = (settled (x .power) (y .power), settled (x .words) (y .words))
 
@@ -176,6 +181,40 @@ turn-end {t} {n} {i} l u = done t n i (u .rest) (u .sum) l (u .end)
 
 -- what the proof of a function over stores hands to search
 pub ruleset stores = (ran-none, ran-cons, ran-dry, ran-one, turn-start, turn-on, turn-end)
+
+-- ---- stores keep 32-bit words
+words-get : {f : List ℕ} → Words f → (at : ℕ) → getD f at 0 ≤ blank
+words-get none at = zero-le
+words-get (more h u) zero = h
+words-get (more h u) (suc at) = words-get u at
+
+words-set : {f : List ℕ} → Words f → (at w : ℕ) → w ≤ blank → Words (set f at w)
+words-set none at w l = none
+words-set (more h u) zero w l = more l u
+words-set (more h u) (suc at) w l = more h (words-set u at w l)
+
+words-blank : (n : ℕ) {f : List ℕ} → Words f → (at : ℕ) → Words (sets f at (replicate n blank))
+words-blank zero u at = u
+words-blank (suc n) u at = words-blank n (words-set u at blank (le-refl blank)) (suc at)
+
+words-apply : (s : Store) {f : List ℕ} → Words f → Words (apply s f)
+unfolding stored wiped
+words-apply (put at w) {f} u = words-set u at (bitAnd (getD f at 0) w) (le-trans (and-le-l (getD f at 0) w) (words-get u at))
+words-apply (wipe at n) u = words-blank n u at
+
+pub words-made : (ss : List Store) {f : List ℕ} → Words f → Words (made ss f)
+words-made [] u = u
+words-made (s ∷ ss) u = words-made ss (words-apply s u)
+
+-- ---- and the flash's length
+length-apply : (s : Store) (f : List ℕ) → length (apply s f) ≡ length f
+unfolding stored wiped
+length-apply (put at w) f = length-set f at _
+length-apply (wipe at n) f = length-sets f at (replicate n blank)
+
+pub length-made : (ss : List Store) (f : List ℕ) → length (made ss f) ≡ length f
+length-made [] f = refl
+length-made (s ∷ ss) f = length-made ss (apply s f) ∙ length-apply s f
 
 -- ---- stores outside the flash, and an erase word by word
 pub stored-out : (f : List ℕ) (at w : ℕ) → length f ≤ at → stored f at w ≡ f

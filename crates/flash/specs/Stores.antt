@@ -3,7 +3,7 @@
 use mathlib.Core.Path.{_≡_}
 use mathlib.Core.List.{List, [], _∷_, _++_}
 use mathlib.Core.Bool.{Bool, _||_}
-use Prim.Native.Nat.{ℕ, suc, zero, _-_}
+use Prim.Native.Nat.{ℕ, suc, zero, _-_, _≤_}
 use lib.ListN.{length, getD, take, set, replicate}
 use lib.Seq.{sets}
 use lib.Bits.{bitAnd}
@@ -11,9 +11,14 @@ use lib.Dec.{ltb}
 use Rattle.flash.specs.declared.Power.{Power}
 
 infixr 10 _then_
--- what an erase leaves in a word
+-- what an erase leaves in a word: the largest that 32 bits hold
 abbrev pub blank : ℕ
 blank = 0xFFFFFFFF
+
+-- a list of 32-bit words
+pub data Words : List ℕ → Type 0 where
+  none : Words []
+  more : {w : ℕ} {ws : List ℕ} → w ≤ blank → Words ws → Words (w ∷ ws)
 
 -- a store of a word to a place, and an erase of so many words from a place on; "store" counts both
 pub data Store : Type 0 where

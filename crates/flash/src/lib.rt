@@ -1,13 +1,14 @@
 // Flash words under power: a word store, a page's erase, and a read.
 //
-// Every function here is proved, and none has a `requires`. `store` and `erase` alone change the
-// manager's flash, and without power they change nothing.
+// Every function here is proved, and none has a `requires`. `store` and `erase`, with `fill`, the
+// erase's loop, alone change the manager's flash, and without power they change nothing.
 ghost use mathlib.Core.Path.{_≡_};
 ghost use mathlib.Core.List.{[], _∷_};
 ghost use lib.ListN.{getD};
 ghost use Rattle.flash.specs.Stores.{put, wipe, wiped, spent, Ran};
 
-// The stores that power is left for, and whether a store has been asked for without.
+// The stores that power is left for, and whether a store has been asked for without. Once noted, a
+// cut stays noted.
 pub struct Power {
     pub left: u32,
     pub cut: bool,
@@ -57,7 +58,8 @@ pub fn erase(flash: &mut [u32], at: usize, count: usize, power: Power) -> Power
     rest
 }
 
-// Sets count words from the place at on to FFFFFFFF, as far as there are any.
+// Sets count words from the place at on to FFFFFFFF, as far as there are any. `erase` alone calls
+// it.
 fn fill(flash: &mut [u32], at: usize, count: usize)
     ensures { λ _. ⌜ now (flash .exit) ≡ wiped (now (flash .entry)) at count ⌝ }
 {

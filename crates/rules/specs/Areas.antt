@@ -11,10 +11,12 @@ use Rattle.rules.specs.declared.Area.{Area}
 use Rattle.rules.specs.Words.{indexOf, isLive}
 use Rattle.rules.specs.Walk.{Item, entryLength, items, allBlank, Kind, kindOf, isSealed, isSound}
 
--- ---- pages, index 0 upward, and after them R, all in one run
+-- ---- pages, and R behind them
+-- the index at which R stands
 abbrev pub R : Area → ℕ
 R a = a .pages
 
+-- the place of a page's first word in the run
 unfoldable pub base : Area → ℕ → ℕ
 base a i = i * a .words
 
@@ -24,20 +26,19 @@ page a f i = take (a .words) (drop (base a i) f)
 abbrev pub kind : Area → List ℕ → ℕ → Kind
 kind a f i = kindOf (a .pages) i (page a f i)
 
--- n pages from the index i on
+-- whether the n pages from the index i on all pass a test
 abbrev pub every : (ℕ → Bool) → ℕ → ℕ → Bool
 every t zero i = true
 every t (suc n) i = t i && every t n (suc i)
 
--- ---- R
+-- ---- R, with the index that a committed one names
 pub data Recovery : Type 0 where
   free : Recovery
   unfinished : Recovery
   committed : ℕ → Recovery
   damage : Recovery
 
--- free if all blank; unfinished if word 1 is blank and some other word is not; committed if a sealed page with count n and an index
--- below n; any other R is damage
+-- of the words of R, in an area of n pages
 unfoldable pub recoveryOf : ℕ → List ℕ → Recovery
 recoveryOf n r =
     let w = getD r 1 0 in
@@ -58,14 +59,14 @@ isDamage unfinished = false
 isDamage (committed j) = false
 isDamage damage = true
 
--- the page that a committed R names
+-- whether R is committed and names page i
 abbrev pub names : Recovery → ℕ → Bool
 names free i = false
 names unfinished i = false
 names (committed j) i = eqb i j
 names damage i = false
 
--- ---- entries in area order: page, then place; each with the place of its header in the run
+-- ---- entries in area order, each with the place of its header in the run
 pub record Entry : Type 0 where
   pub place : ℕ
   pub handle : ℕ
@@ -78,6 +79,7 @@ placed at (e ∷ es) = record { place = at; handle = e .handle; words = e .words
 abbrev pub pageEntries : Area → List ℕ → ℕ → List Entry
 pageEntries a f i = placed (base a i + 2) (items (page a f i))
 
+-- of n pages from the index i on
 abbrev pub entriesFrom : Area → List ℕ → ℕ → ℕ → List Entry
 entriesFrom a f zero i = []
 entriesFrom a f (suc n) i = pageEntries a f i ++ entriesFrom a f n (suc i)
@@ -85,7 +87,7 @@ entriesFrom a f (suc n) i = pageEntries a f i ++ entriesFrom a f n (suc i)
 unfoldable pub entries : Area → List ℕ → List Entry
 entries a f = entriesFrom a f (a .pages) 0
 
--- whether an entry passes a test, and the first one that does
+-- whether some entry passes a test, and the first that does
 abbrev pub anyOf : (Entry → Bool) → List Entry → Bool
 anyOf t [] = false
 anyOf t (e ∷ es) = t e || anyOf t es
@@ -94,39 +96,39 @@ abbrev pub firstOf : (Entry → Bool) → List Entry → Option Entry
 firstOf t [] = none
 firstOf t (e ∷ es) = cond (t e) (some e) (firstOf t es)
 
--- the entry has the handle h
-abbrev pub hasHandle : ℕ → Entry → Bool
-hasHandle h e = eqb (e .handle) h
+-- whether an entry is a live one of the handle h
+abbrev pub liveOf : ℕ → Entry → Bool
+liveOf h e = isLive h && eqb (e .handle) h
 
--- a live entry with a later one of the same handle
+-- whether an entry is live and a later live one of es has its handle
 abbrev pub doubled : Entry → List Entry → Bool
-doubled e es = isLive (e .handle) && anyOf (hasHandle (e .handle)) es
+doubled e es = anyOf (liveOf (e .handle)) es
 
--- some handle is live twice
+-- whether some handle is live twice
 abbrev pub twice : List Entry → Bool
 twice [] = false
 twice (e ∷ es) = doubled e es || twice es
 
--- ---- damaged if R is, or if a page is neither sealed nor torn, except the page a committed R names
+-- ---- damaged, ready
 unfoldable pub damaged : Area → List ℕ → Bool
 damaged a f = isDamage (recovery a f) || not (every (λ i. names (recovery a f) i || isSound (kind a f i)) (a .pages) 0)
 
--- ---- ready if R is free, all pages are sealed, and no handle is live twice
 unfoldable pub ready : Area → List ℕ → Bool
 ready a f = isFree (recovery a f) && (every (λ i. isSealed (kind a f i)) (a .pages) 0 && not (twice (entries a f)))
 
--- ---- the map of a ready area gives each live handle its data
+-- ---- the map
+-- the live entry of a handle
 abbrev pub find : ℕ → List Entry → Option Entry
-find h es = firstOf (hasHandle h) es
+find h es = firstOf (liveOf h) es
 
 abbrev pub dataOf : Option Entry → Option (List ℕ)
 dataOf none = none
 dataOf (some e) = some (e .words)
 
 unfoldable pub mapOf : Area → List ℕ → ℕ → Option (List ℕ)
-mapOf a f h = cond (isLive h) (dataOf (find h (entries a f))) none
+mapOf a f h = dataOf (find h (entries a f))
 
--- ---- live words: the lengths of live entries, summed
+-- ---- live words
 abbrev pub liveWords : List Entry → ℕ
 liveWords [] = 0
 liveWords (e ∷ es) = cond (isLive (e .handle)) (entryLength (e .words)) 0 + liveWords es

@@ -1,22 +1,25 @@
--- Laws of the definitions: a size of the table has its words, a header's entry ends at or before word P - 2, the walk stops inside its
--- page, and the stores that an answer counts are those made. Assumes nothing.
+-- Laws of the definitions: page sizes, headers, where the walk stops, and answers against the stores made. Assumes nothing.
 use mathlib.Core.Path.{_≡_, refl, ap, sym, _∙_}
 use mathlib.Core.List.{List, [], _∷_}
 use mathlib.Core.Bool.{Bool, true, false, cond, _&&_, false≢true}
 use mathlib.Core.Logic.{⊎-elim, _⊎_, inl, inr}
-use Prim.Native.Nat.{ℕ, suc, zero, _+_, _-_, _≤_, _<_, min}
+use Prim.Native.Nat.{ℕ, suc, zero, _+_, _-_, _*_, _^_, _≤_, _<_, min}
 use native.Mathlib.Omega.{arith}
-use lib.ListN.{length, getD, drop, length-drop}
+use native.Mathlib.Nat.{mod-eq-of-lt}
+use lib.ListN.{length, getD, take, drop, length-take, length-drop}
+use lib.Bits.{bitAnd, and-mask, and-comm}
 use lib.Dec.{leb, ltb, eqb}
-use borrow.Author.Tests.{leb-true, leb-false, eqb-true, le-leb, lt-leb}
-use Rattle.flash.specs.Stores.{Store}
+use borrow.Author.Tests.{leb-true, eqb-true, le-leb, lt-leb, le-ltb, lt-ltb}
+use Rattle.flash.specs.declared.Power.{Power}
+use Rattle.flash.specs.Stores.{Store, madeFirst, spent, Ran}
 use Rattle.flash.specs.Laws.{le-or-lt}
 use Rattle.rules.specs.declared.PageSize.{PageSize}
 use Rattle.rules.specs.declared.PageSize.the-variants.{Small, Medium, Large}
 use Rattle.rules.specs.declared.FoundSize.{FoundSize}
-use Rattle.rules.specs.Words.{wordsOf, sizeOf, handleOf, lengthOf}
-use Rattle.rules.specs.Walk.{begins, restIn, rest, stop}
-use Rattle.rules.specs.Refusals.{answerStores, list, outcome}
+use Rattle.rules.specs.declared.Answer.{Answer}
+use Rattle.rules.specs.Words.{wordsOf, sizeOf, longest, header, handleOf, lengthOf, special, seal}
+use Rattle.rules.specs.Walk.{begins, walkIn, rest, stop}
+use Rattle.rules.specs.Refusals.{answerStores, list, Outcome, outcomeOf}
 
 -- ---- tests
 pub and-left : (a b : Bool) → a && b ≡ true → a ≡ true
@@ -27,7 +30,12 @@ pub and-right : (a b : Bool) → a && b ≡ true → b ≡ true
 and-right true b e = e
 and-right false b e = absurd (false≢true e)
 
--- ---- page sizes
+-- ---- page sizes: the size that is found for P is the one of P words
+pub words-size : (s : PageSize) → sizeOf (wordsOf s) ≡ FoundSize.Is s
+words-size Small = refl
+words-size Medium = refl
+words-size Large = refl
+
 pub size-words : (P : ℕ) (s : PageSize) → sizeOf P ≡ FoundSize.Is s → wordsOf s ≡ P
 size-words P s e = small (eqb P 64) refl
   where
@@ -43,12 +51,19 @@ size-words P s e = small (eqb P 64) refl
     small true q = let z : Small ≡ s = cc in ap wordsOf (sym z) ∙ sym (eqb-true P 64 q)
     small false q = medium (eqb P 256) refl q
 
--- ---- the walk
--- the word at a place of a page is a header, by places: its handle and length are right, and the entry's last word is at or before P - 2
+-- ---- headers
+-- a header stored over the seal is that header
+pub header-over-seal : (h l : ℕ) → h < special → l ≤ longest → bitAnd seal (header h l) ≡ header h l
+unfolding header
+header-over-seal h l a b =
+    let k : 65536 * h + l < 2 ^ 31 = omega arith in
+    and-comm seal (65536 * h + l) ∙ and-mask (65536 * h + l) 31 ∙ mod-eq-of-lt k
+
+-- the word at a place of a page is a header, by places: the entry's last word is at or before P - 2
 abbrev pub headerAt : List ℕ → ℕ → Bool
 headerAt p at =
     let w = getD p at 0 in
-    ltb (handleOf w) 0x7F00 && (leb 1 (lengthOf w) && (leb (lengthOf w) 33 && leb (at + lengthOf w - 1) (length p - 2)))
+    ltb (handleOf w) special && (leb 1 (lengthOf w) && (leb (lengthOf w) longest && leb (at + lengthOf w - 1) (length p - 2)))
 
 ends-at : (p : List ℕ) (at l : ℕ) → at < length p → 2 ≤ length p → 1 ≤ l → leb l (length (drop (suc at) p)) ≡ leb (at + l - 1) (length p - 2)
 ends-at p at l h two one =
@@ -64,40 +79,61 @@ begins-at p at h two =
     let l = lengthOf (getD p at 0) in
     ⊎-elim (λ (q : 1 ≤ l). rw (ends-at p at l h two q)) (λ (q : l < 1). rw (lt-leb 1 l q)) (le-or-lt 1 l)
 
--- an entry leaves a word behind it
+-- ---- the walk
 begins-leaves : (w : ℕ) (ws : List ℕ) → begins w ws ≡ true → lengthOf w - 1 < length ws
 unfolding begins
 begins-leaves w ws e =
     let l = lengthOf w in
-    let a = and-right (ltb (handleOf w) 0x7F00) _ e in
+    let a = and-right (ltb (handleOf w) special) _ e in
     let one = leb-true 1 l (and-left (leb 1 l) _ a) in
-    let fits = leb-true l (length ws) (and-right (leb l 33) _ (and-right (leb 1 l) _ a)) in
+    let fits = leb-true l (length ws) (and-right (leb l longest) _ (and-right (leb 1 l) _ a)) in
     omega arith
 
-rest-some : (k : ℕ) (ws : List ℕ) → k < length ws → 0 < length (restIn k ws)
+rest-some : (k : ℕ) (ws : List ℕ) → k < length ws → 0 < length (walkIn k ws .rest)
 rest-some k [] h = absurd (let z : ⊥ = omega arith in z)
 rest-some (suc k) (w ∷ ws) h = rest-some k ws (omega arith)
 rest-some zero (w ∷ ws) h = go (begins w ws) refl (rest-some (lengthOf w - 1) ws)
   where
-    go : (t : Bool) → begins w ws ≡ t → (lengthOf w - 1 < length ws → 0 < length (restIn (lengthOf w - 1) ws)) → 0 < length (restIn 0 (w ∷ ws))
+    go : (t : Bool) → begins w ws ≡ t → (lengthOf w - 1 < length ws → 0 < length (walkIn (lengthOf w - 1) ws .rest)) → 0 < length (walkIn 0 (w ∷ ws) .rest)
     go true q more = rw q (more (begins-leaves w ws q))
     go false q more = rw q (omega arith)
 
--- so the walk never gets past word P - 1
+-- it stops inside its page
 pub stops-inside : (p : List ℕ) → 2 < length p → stop p < length p
 unfolding stop rest
 stops-inside p h =
     let d : length (drop 2 p) ≡ length p - 2 = length-drop 2 p in
-    let s : 0 < length (restIn 0 (drop 2 p)) = rest-some 0 (drop 2 p) (omega arith) in
+    let s : 0 < length (walkIn 0 (drop 2 p) .rest) = rest-some 0 (drop 2 p) (omega arith) in
     omega arith
 
--- ---- outcomes
--- the stores that an answer counts: the power given, or the length of the list if that is less
-pub stores-made : (ss : List Store) (k : ℕ) (f : List ℕ) → answerStores (outcome (list ss) k f .answer) ≡ min k (length ss)
+-- ---- answers
+-- the stores that an answer counts are those made
+pub stores-made : (ss : List Store) (k : ℕ) (f : List ℕ) → answerStores (outcomeOf (list ss) k f .answer) ≡ length (take k ss)
 stores-made ss k f = ⊎-elim enough short (le-or-lt (length ss) k)
   where
-    enough : length ss ≤ k → answerStores (outcome (list ss) k f .answer) ≡ min k (length ss)
-    enough h = rw (le-leb (length ss) k h) (omega arith)
+    enough : length ss ≤ k → answerStores (outcomeOf (list ss) k f .answer) ≡ length (take k ss)
+    enough h = rw (le-leb (length ss) k h) (omega (arith, length-take k ss))
 
-    short : k < length ss → answerStores (outcome (list ss) k f .answer) ≡ min k (length ss)
-    short h = rw (lt-leb (length ss) k h) (omega arith)
+    short : k < length ss → answerStores (outcomeOf (list ss) k f .answer) ≡ length (take k ss)
+    short h = rw (lt-leb (length ss) k h) (omega (arith, length-take k ss))
+
+-- the answer of a run that was given power for k stores, by the power that is left
+abbrev pub answerOf : ℕ → Power → Answer
+answerOf k q = cond (q .cut) (Answer.Cut k) (Answer.Done (k - q .left))
+
+answer-spent : (ss : List Store) (k : ℕ) (f : List ℕ)
+    → outcomeOf (list ss) k f .answer ≡ answerOf k (spent (record { left = k; cut = false }) (length ss))
+unfolding spent
+answer-spent ss k f = ⊎-elim enough short (le-or-lt (length ss) k)
+  where
+    enough : length ss ≤ k → outcomeOf (list ss) k f .answer ≡ answerOf k (spent (record { left = k; cut = false }) (length ss))
+    enough h = let e : k - (k - length ss) ≡ length ss = omega arith in rw (le-leb (length ss) k h, le-ltb k (length ss) h, e)
+
+    short : k < length ss → outcomeOf (list ss) k f .answer ≡ answerOf k (spent (record { left = k; cut = false }) (length ss))
+    short h = rw (lt-leb (length ss) k h, lt-ltb k (length ss) h)
+
+-- a run is its list's outcome
+pub ran-outcome : (ss : List Store) (k : ℕ) {f g : List ℕ} {q : Power} → Ran ss (record { left = k; cut = false }) f q g
+    → outcomeOf (list ss) k f ≡ record { answer = answerOf k q; flash = g }
+ran-outcome ss k {f} x =
+    rw (x .power, x .words) (ap (λ (r : Answer). record { answer = r; flash = madeFirst k ss f }) (answer-spent ss k f))

@@ -4,5 +4,7 @@ pub mod Areas
 pub mod Refusals
 pub mod Lists
 pub mod Search
-pub mod Worked
 pub mod Laws
+pub mod Cases
+pub mod Worked
+pub mod Edges

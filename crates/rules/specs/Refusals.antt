@@ -14,11 +14,11 @@ use Rattle.rules.specs.declared.Refusal.the-variants.{Geometry, Damaged,
 use Rattle.rules.specs.declared.Answer.{Answer}
 use Rattle.rules.specs.declared.Reading.{Reading}
 use Rattle.rules.specs.declared.Yielded.{Yielded}
-use Rattle.rules.specs.Words.{sizeOf, quota}
+use Rattle.rules.specs.Words.{sizeOf, quota, special}
 use Rattle.rules.specs.Walk.{entryLength}
-use Rattle.rules.specs.Areas.{Entry, entries, find, dataOf, damaged, ready, liveWords}
+use Rattle.rules.specs.Areas.{Entry, entries, find, mapOf, damaged, ready, liveWords}
 
--- ---- numbers
+-- ---- numbers and values
 abbrev pub refusalNumber : Refusal → ℕ
 refusalNumber Geometry = 0x01
 refusalNumber Damaged = 0x02
@@ -29,22 +29,24 @@ refusalNumber NotFound = 0x06
 refusalNumber NoRoom = 0x07
 refusalNumber BadPlace = 0x09
 
--- format, recover, write, delete: DONE is 00 and CUT is 08
+-- format, recover, write, delete
 abbrev pub answerNumber : Answer → ℕ
 answerNumber (Answer.Done s) = 0x00
 answerNumber (Answer.Cut s) = 0x08
 answerNumber (Answer.Refused n) = refusalNumber n
 
--- the stores made; a refusal makes none
 abbrev pub answerStores : Answer → ℕ
 answerStores (Answer.Done s) = s
 answerStores (Answer.Cut s) = s
 answerStores (Answer.Refused n) = 0
 
--- read: the place of the entry's header and the number of its data words, both 0 if refused
+-- read
 abbrev pub readingNumber : Reading → ℕ
 readingNumber (Reading.At p n) = 0x00
 readingNumber (Reading.Refused n) = refusalNumber n
+
+abbrev pub readingStores : Reading → ℕ
+readingStores r = 0
 
 abbrev pub readingPlace : Reading → ℕ
 readingPlace (Reading.At p n) = p
@@ -54,43 +56,45 @@ abbrev pub readingWords : Reading → ℕ
 readingWords (Reading.At p n) = n
 readingWords (Reading.Refused n) = 0
 
--- a step of a search: the place of the match, 0 if refused
+-- a step of a search
 abbrev pub yieldedNumber : Yielded → ℕ
 yieldedNumber (Yielded.At p) = 0x00
 yieldedNumber (Yielded.Refused n) = refusalNumber n
+
+abbrev pub yieldedStores : Yielded → ℕ
+yieldedStores y = 0
 
 abbrev pub yieldedPlace : Yielded → ℕ
 yieldedPlace (Yielded.At p) = p
 yieldedPlace (Yielded.Refused n) = 0
 
--- ---- given exactly when
+-- ---- when each is given; DAMAGED is `damaged`, BADPLACE stands with search
 abbrev pub isListed : FoundSize → Bool
 isListed (FoundSize.Is s) = true
 isListed FoundSize.None = false
 
--- 01 GEOMETRY: N is not 1 to 255, or P is not in the table, or the run's length is not (N + 1) x P
+-- GEOMETRY
 unfoldable pub wrongGeometry : Area → List ℕ → Bool
 wrongGeometry a f =
     not (leb 1 (a .pages) && leb (a .pages) 255) || (not (isListed (sizeOf (a .words))) || not (eqb (length f) ((a .pages + 1) * a .words)))
 
--- 03 UNREADY: undamaged, not ready
+-- UNREADY
 unfoldable pub unready : Area → List ℕ → Bool
 unready a f = not (damaged a f) && not (ready a f)
 
--- 04 BADHANDLE: handle 0000, or 7F00 and above
+-- BADHANDLE
 abbrev pub badHandle : ℕ → Bool
-badHandle h = eqb h 0 || leb 0x7F00 h
+badHandle h = eqb h 0 || leb special h
 
--- 05 BADLENGTH: more than 32 data words
+-- BADLENGTH
 abbrev pub badLength : List ℕ → Bool
 badLength d = ltb 32 (length d)
 
--- 06 NOTFOUND: no entry
+-- NOTFOUND, of the entry that is looked for
 abbrev pub isNone : Option Entry → Bool
 isNone none = true
 isNone (some e) = false
 
--- the handle already holds this very data
 abbrev pub sameWords : List ℕ → List ℕ → Bool
 sameWords [] [] = true
 sameWords [] (y ∷ ys) = false
@@ -101,45 +105,55 @@ abbrev pub isData : Option (List ℕ) → List ℕ → Bool
 isData none d = false
 isData (some v) d = sameWords v d
 
+-- whether the handle h already holds the data d
 unfoldable pub holds : Area → List ℕ → ℕ → List ℕ → Bool
-holds a f h d = isData (dataOf (find h (entries a f))) d
+holds a f h d = isData (mapOf a f h) d
 
--- 07 NOROOM: live words + new length > N x (D - 33), unless the handle already holds this very data
+abbrev pub areaQuota : Area → ℕ
+areaQuota a = a .pages * quota (a .words)
+
+-- NOROOM
 unfoldable pub noRoom : Area → List ℕ → ℕ → List ℕ → Bool
-noRoom a f h d = not (holds a f h d) && ltb (a .pages * quota (a .words)) (liveWords (entries a f) + entryLength d)
+noRoom a f h d = not (holds a f h d) && ltb (areaQuota a) (liveWords (entries a f) + entryLength d)
 
--- ---- checks run in the order of the numbers: the first that applies refuses
+-- ---- the order of checks
+-- checks in order, each with the refusal that it gives: the first that applies refuses, and with none the answer stands
 abbrev pub checked : {A : Type 0} → (Refusal → A) → List (Bool × Refusal) → A → A
 checked refused [] x = x
 checked refused (c ∷ cs) x = cond (c .0) (refused (c .1)) (checked refused cs x)
 
--- each request has those that apply to it; read and delete have the same, and search's stand with it
 abbrev pub formatChecks : Area → List ℕ → List (Bool × Refusal)
 formatChecks a f = (wrongGeometry a f, Geometry) ∷ []
 
 abbrev pub recoverChecks : Area → List ℕ → List (Bool × Refusal)
-recoverChecks a f = formatChecks a f ++ ((damaged a f, Damaged) ∷ [])
+recoverChecks a f = (wrongGeometry a f, Geometry) ∷ (damaged a f, Damaged) ∷ []
 
-abbrev pub readyChecks : Area → List ℕ → List (Bool × Refusal)
-readyChecks a f = recoverChecks a f ++ ((unready a f, Unready) ∷ [])
+-- those that every other request begins with
+abbrev pub readyChecks : Area → List ℕ → List (Bool × Refusal) → List (Bool × Refusal)
+readyChecks a f cs = (wrongGeometry a f, Geometry) ∷ (damaged a f, Damaged) ∷ (unready a f, Unready) ∷ cs
 
 abbrev pub writeChecks : Area → List ℕ → ℕ → List ℕ → List (Bool × Refusal)
-writeChecks a f h d = readyChecks a f ++ ((badHandle h, BadHandle) ∷ (badLength d, BadLength) ∷ (noRoom a f h d, NoRoom) ∷ [])
+writeChecks a f h d = readyChecks a f ((badHandle h, BadHandle) ∷ (badLength d, BadLength) ∷ (noRoom a f h d, NoRoom) ∷ [])
 
-abbrev pub foundChecks : Area → List ℕ → ℕ → List (Bool × Refusal)
-foundChecks a f h = readyChecks a f ++ ((badHandle h, BadHandle) ∷ (isNone (find h (entries a f)), NotFound) ∷ [])
+-- read and delete
+abbrev pub findChecks : Area → List ℕ → ℕ → List (Bool × Refusal)
+findChecks a f h = readyChecks a f ((badHandle h, BadHandle) ∷ (isNone (find h (entries a f)), NotFound) ∷ [])
 
--- ---- a request that may store is a plan, read off the flash it meets: a refusal, or a list of stores
+-- ---- outcomes under power
+-- what a request that may store is to do on the flash that it meets: refuse, or make a list of stores
 pub data Plan : Type 0 where
   refuse : Refusal → Plan
   list : List Store → Plan
 
--- Its outcome with power for k stores. A refusal makes none and leaves every word. Of a list the first k stores are made; if that
--- ends it, the answer is DONE with its length, and else CUT with the power given.
 pub record Outcome : Type 0 where
   pub answer : Answer
   pub flash : List ℕ
 
-abbrev pub outcome : Plan → ℕ → List ℕ → Outcome
-outcome (refuse n) k f = record { answer = Answer.Refused n; flash = f }
-outcome (list ss) k f = record { answer = cond (leb (length ss) k) (Answer.Done (length ss)) (Answer.Cut k); flash = madeFirst k ss f }
+-- with power for k stores
+abbrev pub outcomeOf : Plan → ℕ → List ℕ → Outcome
+outcomeOf (refuse n) k f = record { answer = Answer.Refused n; flash = f }
+outcomeOf (list ss) k f =
+    record { answer = cond (leb (length ss) k) (Answer.Done (length ss)) (Answer.Cut k); flash = madeFirst k ss f }
+
+abbrev pub outcome : (List ℕ → Plan) → ℕ → List ℕ → Outcome
+outcome plan k f = outcomeOf (plan f) k f

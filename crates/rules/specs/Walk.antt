@@ -1,4 +1,4 @@
--- The walk of a page, and when a page is sealed or torn: document 01, "Walk of a page". A page is the list of its words.
+-- The walk of a page, and when a page is sealed or torn: document 01, "Words, pages, area". A page is the list of its words.
 -- Definitions alone. Assumes nothing.
 use mathlib.Core.List.{List, [], _∷_, _++_}
 use mathlib.Core.Bool.{Bool, true, false, cond, _&&_}
@@ -6,14 +6,14 @@ use Prim.Native.Nat.{ℕ, suc, zero, _+_, _-_}
 use lib.ListN.{length, getD, take, drop}
 use lib.Dec.{leb, ltb, eqb}
 use Rattle.flash.specs.Stores.{blank}
-use Rattle.rules.specs.Words.{meta0, meta1, header, handleOf, lengthOf, seal}
+use Rattle.rules.specs.Words.{longest, meta0, meta1, header, handleOf, lengthOf, special, seal}
 
 -- an entry of a page: its handle and its data
 pub record Item : Type 0 where
   pub handle : ℕ
   pub words : List ℕ
 
--- the length of an entry in words, header included, by its data
+-- the length of an entry with the data d, its header included
 abbrev pub entryLength : List ℕ → ℕ
 entryLength d = length d + 1
 
@@ -23,31 +23,33 @@ codes [] = []
 codes (e ∷ es) = header (e .handle) (entryLength (e .words)) ∷ (e .words ++ codes es)
 
 -- ---- the walk
--- w, with ws behind it to the page's end, is the header of an entry: its handle is 0000 to 7EFF, its length 1 to 33, and the entry
--- ends at or before word P - 2, that is, before the last of ws
+-- w is a header, ws being the words behind it to the page's end: handle and length are right, and the entry leaves the page's last word
 unfoldable pub begins : ℕ → List ℕ → Bool
-begins w ws = ltb (handleOf w) 0x7F00 && (leb 1 (lengthOf w) && (leb (lengthOf w) 33 && leb (lengthOf w) (length ws)))
+begins w ws = ltb (handleOf w) special && (leb 1 (lengthOf w) && (leb (lengthOf w) longest && leb (lengthOf w) (length ws)))
 
--- the entries that the walk takes behind the first k words, by their lengths, and the words from where it stops
-abbrev pub itemsIn : ℕ → List ℕ → List Item
-itemsIn k [] = []
-itemsIn zero (w ∷ ws) =
-    cond (begins w ws) (record { handle = handleOf w; words = take (lengthOf w - 1) ws } ∷ itemsIn (lengthOf w - 1) ws) []
-itemsIn (suc k) (w ∷ ws) = itemsIn k ws
+-- what a walk finds: the entries that it takes, and the words from where it stops
+pub record Walked : Type 0 where
+  pub items : List Item
+  pub rest : List ℕ
 
-abbrev pub restIn : ℕ → List ℕ → List ℕ
-restIn k [] = []
-restIn zero (w ∷ ws) = cond (begins w ws) (restIn (lengthOf w - 1) ws) (w ∷ ws)
-restIn (suc k) (w ∷ ws) = restIn k ws
+-- an entry, and behind it what the walk finds
+abbrev pub taken : ℕ → List ℕ → Walked → Walked
+taken w ws r = record { items = record { handle = handleOf w; words = take (lengthOf w - 1) ws } ∷ r .items; rest = r .rest }
 
--- the walk of a page begins at word 2
+-- the walk behind the first k words, which it does not look at
+abbrev pub walkIn : ℕ → List ℕ → Walked
+walkIn k [] = record { items = []; rest = [] }
+walkIn zero (w ∷ ws) = cond (begins w ws) (taken w ws (walkIn (lengthOf w - 1) ws)) (record { items = []; rest = w ∷ ws })
+walkIn (suc k) (w ∷ ws) = walkIn k ws
+
+-- of a page, from word 2
 unfoldable pub items : List ℕ → List Item
-items p = itemsIn 0 (drop 2 p)
+items p = walkIn 0 (drop 2 p) .items
 
 unfoldable pub rest : List ℕ → List ℕ
-rest p = restIn 0 (drop 2 p)
+rest p = walkIn 0 (drop 2 p) .rest
 
--- the place in the page where the walk stops
+-- the place in the page where it stops
 unfoldable pub stop : List ℕ → ℕ
 stop p = length p - length (rest p)
 
@@ -61,15 +63,15 @@ pub data Kind : Type 0 where
   torn : Kind
   neither : Kind
 
--- by the words from where the walk stops: a seal and all words behind it blank, or all words blank
+-- by the words from where the walk stops
 abbrev pub endKind : List ℕ → Kind
 endKind [] = neither
 endKind (w ∷ ws) = cond (allBlank ws) (cond (eqb w seal) sealed (cond (eqb w blank) torn neither)) neither
 
--- both words of the metadata of the page with the index i of n
 unfoldable pub metaRight : ℕ → ℕ → List ℕ → Bool
 metaRight n i p = eqb (getD p 0 0) meta0 && eqb (getD p 1 0) (meta1 n i)
 
+-- of the page with the index i of n
 unfoldable pub kindOf : ℕ → ℕ → List ℕ → Kind
 kindOf n i p = cond (metaRight n i p) (endKind (rest p)) neither
 

@@ -6,8 +6,6 @@ ghost use mathlib.Core.Path.{_≡_};
 ghost use Prim.Native.Nat.{_≤_};
 ghost use Rattle.rules.specs.Words.{wordsOf, sizeOf, openWords, quota, lastSeal};
 ghost use Rattle.rules.specs.Refusals.{refusalNumber, answerNumber, answerStores};
-ghost use Rattle.rules.specs.Refusals.{readingNumber, readingPlace, readingWords};
-ghost use Rattle.rules.specs.Refusals.{yieldedNumber, yieldedPlace};
 
 // An area: so many pages of so many words each, and behind them the recovery page. Any numbers may
 // stand here; GEOMETRY judges them.
@@ -97,6 +95,7 @@ pub enum Refusal {
 }
 
 impl Refusal {
+    // Its number in document 01's table.
     pub fn number(self) -> u8
         ensures { λ r. ⌜ r ≡ refusalNumber self ⌝ }
     {
@@ -122,6 +121,7 @@ pub enum Answer {
 }
 
 impl Answer {
+    // Its number in document 01's table.
     pub fn number(self) -> u8
         ensures { λ r. ⌜ r ≡ answerNumber self ⌝ }
     {
@@ -132,6 +132,7 @@ impl Answer {
         }
     }
 
+    // The stores made, 0 if refused.
     pub fn stores(self) -> u32
         ensures { λ r. ⌜ r ≡ answerStores self ⌝ }
     {
@@ -150,60 +151,8 @@ pub enum Reading {
     Refused(Refusal),
 }
 
-impl Reading {
-    pub fn number(self) -> u8
-        ensures { λ r. ⌜ r ≡ readingNumber self ⌝ }
-    {
-        match self {
-            Reading::At { place: _, words: _ } => 0,
-            Reading::Refused(why) => why.number(),
-        }
-    }
-
-    // 0 if refused.
-    pub fn place(self) -> usize
-        ensures { λ r. ⌜ r ≡ readingPlace self ⌝ }
-    {
-        match self {
-            Reading::At { place, words: _ } => place,
-            Reading::Refused(_) => 0,
-        }
-    }
-
-    // 0 if refused.
-    pub fn words(self) -> usize
-        ensures { λ r. ⌜ r ≡ readingWords self ⌝ }
-    {
-        match self {
-            Reading::At { place: _, words } => words,
-            Reading::Refused(_) => 0,
-        }
-    }
-}
-
 // What a step of a search yields: the place of the next match's header in the run, or a refusal.
 pub enum Yielded {
     At(usize),
     Refused(Refusal),
-}
-
-impl Yielded {
-    pub fn number(self) -> u8
-        ensures { λ r. ⌜ r ≡ yieldedNumber self ⌝ }
-    {
-        match self {
-            Yielded::At(_) => 0,
-            Yielded::Refused(why) => why.number(),
-        }
-    }
-
-    // 0 if refused.
-    pub fn place(self) -> usize
-        ensures { λ r. ⌜ r ≡ yieldedPlace self ⌝ }
-    {
-        match self {
-            Yielded::At(place) => place,
-            Yielded::Refused(_) => 0,
-        }
-    }
 }
