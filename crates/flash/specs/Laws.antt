@@ -2,7 +2,7 @@
 -- how steps compose whose stores are read off the flash as the steps before left it. Assumes nothing.
 use mathlib.Core.Path.{_≡_, refl, ap, sym, _∙_}
 use mathlib.Core.List.{List, [], _∷_, _++_}
-use mathlib.Core.Bool.{Bool, true, false, _||_, or-false, or-true}
+use mathlib.Core.Bool.{Bool, true, _||_, or-false, or-true}
 use mathlib.Core.Logic.{_↔_, ⊎-elim, _⊎_, inl, inr}
 use Prim.Native.Nat.{ℕ, suc, zero, _+_, _-_, _≤_, _<_, zero-le, suc-le-suc, min}
 use native.Mathlib.Omega.{arith}
@@ -14,7 +14,7 @@ use lib.Bits.{bitAnd, and-le-l}
 use lib.Dec.{ltb}
 use borrow.Author.Tests.{lt-ltb, le-ltb}
 use Rattle.flash.specs.declared.Power.{Power}
-use Rattle.flash.specs.Stores.{blank, Words, none, more, Store, put, wipe, stored, wiped, apply, made, madeFirst, _then_, each, spent, Ran}
+use Rattle.flash.specs.Stores.{blank, Words, none, more, Store, put, wipe, stored, wiped, apply, made, madeFirst, Step, _then_, each, spent, Ran}
 
 -- two answers that a promise fixes by one and the same definition are equal
 pub settled : {A : Type 0} {x r s : A} → r ≡ x → s ≡ x → r ≡ s
@@ -51,7 +51,7 @@ first-append (suc k) (s ∷ a) b f =
 
 -- a second step may be read off the flash as the first one left it: with power enough that is the flash which the rules mean, and
 -- without it nothing is stored
-pub first-then : (k : ℕ) (s t : List ℕ → List Store) (f : List ℕ)
+pub first-then : (k : ℕ) (s t : Step) (f : List ℕ)
     → madeFirst k ((s then t) f) f ≡ madeFirst (k - length (s f)) (t (madeFirst k (s f) f)) (madeFirst k (s f) f)
 first-then k s t f = first-append k (s f) (t (made (s f) f)) f ∙ ⊎-elim enough short (le-or-lt (length (s f)) k)
   where
@@ -125,7 +125,7 @@ ran-settles x y = (settled (x .power) (y .power), settled (x .words) (y .words))
 pub ran-none : (p : Power) (f : List ℕ) → Ran [] p f p f
 ran-none p f = record { power = sym (spent-none p); words = sym (first-nil (p .left) f) }
 
-pub ran-then : {p q r : Power} {f g h : List ℕ} (s t : List ℕ → List Store) → Ran (s f) p f q g → Ran (t g) q g r h → Ran ((s then t) f) p f r h
+pub ran-then : {p q r : Power} {f g h : List ℕ} (s t : Step) → Ran (s f) p f q g → Ran (t g) q g r h → Ran ((s then t) f) p f r h
 ran-then {p} {q} {r} {f} {g} {h} s t x y =
     record {
       power = y .power ∙ rw (x .power, length-append) (spent-more p (length (s f)) (length (t g)) (length (t (made (s f) f))) (λ e. ap (λ (l : List ℕ). length (t l)) (x .words ∙ first-all (p .left) (s f) f e)));
@@ -154,15 +154,15 @@ spent-one p h = power≡ refl (rw (le-ltb (p .left) 1 (omega arith)) (sym (or-fa
 
 -- A loop over the steps t 0, .., t (n - 1), begun with the power p₀ on the flash f₀, stands before step i with the power p and the
 -- flash f: whatever the steps that are left lead to, the whole loop leads to.
-pub record Turn (t : ℕ → List ℕ → List Store) (n : ℕ) (p₀ : Power) (f₀ : List ℕ) (i : ℕ) (p : Power) (f : List ℕ) : Type 0 where
+pub record Turn (t : ℕ → Step) (n : ℕ) (p₀ : Power) (f₀ : List ℕ) (i : ℕ) (p : Power) (f : List ℕ) : Type 0 where
   pub rest : ℕ
   pub sum : rest + i ≡ n
   pub end : (r : Power) (h : List ℕ) → Ran (each t rest i f) p f r h → Ran (each t n 0 f₀) p₀ f₀ r h
 
-pub turn-start : {t : ℕ → List ℕ → List Store} {n : ℕ} {p : Power} {f : List ℕ} → Turn t n p f 0 p f
+pub turn-start : {t : ℕ → Step} {n : ℕ} {p : Power} {f : List ℕ} → Turn t n p f 0 p f
 turn-start {t} {n} = record { rest = n; sum = omega arith; end = λ r h x. x }
 
-module _ (t : ℕ → List ℕ → List Store) (n i : ℕ) {p₀ p : Power} {f₀ f : List ℕ} where
+module _ (t : ℕ → Step) (n i : ℕ) {p₀ p : Power} {f₀ f : List ℕ} where
   on : {q : Power} {g : List ℕ} (k : ℕ) → k + i ≡ n → i < n → Ran (t i f) p f q g → ((r : Power) (h : List ℕ) → Ran (each t k i f) p f r h → Ran (each t n 0 f₀) p₀ f₀ r h)
       → Turn t n p₀ f₀ (suc i) q g
   on zero s l x e = absurd (let z : ⊥ = omega arith in z)
@@ -172,11 +172,11 @@ module _ (t : ℕ → List ℕ → List Store) (n i : ℕ) {p₀ p : Power} {f�
   done zero s l e = e p f (ran-none p f)
   done (suc k) s l e = absurd (let z : ⊥ = omega arith in z)
 
-pub turn-on : {t : ℕ → List ℕ → List Store} {n i : ℕ} {p₀ p q : Power} {f₀ f g : List ℕ} → i < n → Ran (t i f) p f q g
+pub turn-on : {t : ℕ → Step} {n i : ℕ} {p₀ p q : Power} {f₀ f g : List ℕ} → i < n → Ran (t i f) p f q g
     → Turn t n p₀ f₀ i p f → Turn t n p₀ f₀ (i + 1) q g
 turn-on {t} {n} {i} l x u = rw (add-one i) (on t n i (u .rest) (u .sum) l x (u .end))
 
-pub turn-end : {t : ℕ → List ℕ → List Store} {n i : ℕ} {p₀ p : Power} {f₀ f : List ℕ} → n ≤ i → Turn t n p₀ f₀ i p f → Ran (each t n 0 f₀) p₀ f₀ p f
+pub turn-end : {t : ℕ → Step} {n i : ℕ} {p₀ p : Power} {f₀ f : List ℕ} → n ≤ i → Turn t n p₀ f₀ i p f → Ran (each t n 0 f₀) p₀ f₀ p f
 turn-end {t} {n} {i} l u = done t n i (u .rest) (u .sum) l (u .end)
 
 -- what the proof of a function over stores hands to search

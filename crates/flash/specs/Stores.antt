@@ -2,7 +2,7 @@
 -- Definitions alone. Assumes nothing.
 use mathlib.Core.Path.{_≡_}
 use mathlib.Core.List.{List, [], _∷_, _++_}
-use mathlib.Core.Bool.{Bool, _||_}
+use mathlib.Core.Bool.{_||_}
 use Prim.Native.Nat.{ℕ, suc, zero, _-_, _≤_}
 use lib.ListN.{length, getD, take, set, replicate}
 use lib.Seq.{sets}
@@ -51,12 +51,16 @@ abbrev pub puts : ℕ → List ℕ → List Store
 puts at [] = []
 puts at (w ∷ ws) = put at w ∷ puts (suc at) ws
 
+-- a step: the stores that it makes on the flash that it meets
+abbrev pub Step : Type 0
+Step = List ℕ → List Store
+
 -- one step, then another, which reads the flash as the first left it
-abbrev pub _then_ : (List ℕ → List Store) → (List ℕ → List Store) → List ℕ → List Store
+abbrev pub _then_ : Step → Step → Step
 (s then t) f = s f ++ t (made (s f) f)
 
 -- the steps t i, t (i + 1), .., n of them, each reading the flash as the one before left it
-abbrev pub each : (ℕ → List ℕ → List Store) → ℕ → ℕ → List ℕ → List Store
+abbrev pub each : (ℕ → Step) → ℕ → ℕ → Step
 each t zero i f = []
 each t (suc n) i f = t i f ++ each t n (suc i) (made (t i f) f)
 

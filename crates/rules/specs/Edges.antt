@@ -4,10 +4,9 @@ use mathlib.Core.Path.{_≡_, refl}
 use mathlib.Core.List.{List, [], _∷_, _++_, map}
 use mathlib.Core.Option.{some}
 use Prim.Native.Nat.{ℕ, _-_}
-use lib.ListN.{length, replicate}
+use lib.ListN.{length}
 use Rattle.flash.specs.Stores.{stored, wiped, madeFirst}
 use Rattle.rules.specs.declared.Area.{Area}
-use Rattle.rules.specs.declared.Refusal.{Refusal}
 use Rattle.rules.specs.declared.Refusal.the-variants.{Geometry, Damaged, Unready, BadHandle, BadLength, NotFound, NoRoom, BadPlace}
 use Rattle.rules.specs.declared.Answer.the-variants.{Done, Cut, Refused}
 use Rattle.rules.specs.declared.Reading.{Reading}

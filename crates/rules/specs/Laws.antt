@@ -2,8 +2,8 @@
 use mathlib.Core.Path.{_≡_, refl, ap, sym, _∙_}
 use mathlib.Core.List.{List, [], _∷_}
 use mathlib.Core.Bool.{Bool, true, false, cond, _&&_, false≢true}
-use mathlib.Core.Logic.{⊎-elim, _⊎_, inl, inr}
-use Prim.Native.Nat.{ℕ, suc, zero, _+_, _-_, _*_, _^_, _≤_, _<_, min}
+use mathlib.Core.Logic.{⊎-elim}
+use Prim.Native.Nat.{ℕ, suc, zero, _+_, _-_, _*_, _^_, _≤_, _<_}
 use native.Mathlib.Omega.{arith}
 use native.Mathlib.Nat.{mod-eq-of-lt}
 use lib.ListN.{length, getD, take, drop, length-take, length-drop}
@@ -19,7 +19,7 @@ use Rattle.rules.specs.declared.FoundSize.{FoundSize}
 use Rattle.rules.specs.declared.Answer.{Answer}
 use Rattle.rules.specs.Words.{wordsOf, sizeOf, longest, header, handleOf, lengthOf, special, seal}
 use Rattle.rules.specs.Walk.{begins, walkIn, rest, stop}
-use Rattle.rules.specs.Refusals.{answerStores, list, Outcome, outcomeOf}
+use Rattle.rules.specs.Refusals.{answerStores, list, outcomeOf}
 
 -- ---- tests
 pub and-left : (a b : Bool) → a && b ≡ true → a ≡ true

@@ -5,16 +5,12 @@ use mathlib.Core.Option.{Option, some, none}
 use Prim.Native.Nat.{ℕ, suc, zero, _+_, _-_}
 use lib.ListN.{take, drop}
 use lib.Dec.{leb}
-use Rattle.flash.specs.Stores.{Store, put, wipe, puts, _then_, each}
+use Rattle.flash.specs.Stores.{Store, put, wipe, puts, Step, _then_, each}
 use Rattle.rules.specs.declared.Area.{Area}
 use Rattle.rules.specs.Words.{openWords, lastSeal, meta0, meta1, header, isLive, seal}
 use Rattle.rules.specs.Walk.{Item, entryLength, codes, items, stop, Kind, sealed, torn, neither}
 use Rattle.rules.specs.Areas.{R, base, page, kind, Recovery, free, unfinished, committed, damage, recovery, Entry, pageEntries, entries, doubled, find, liveWords}
 use Rattle.rules.specs.Refusals.{checked, formatChecks, recoverChecks, writeChecks, findChecks, holds, Plan, refuse, list}
-
--- a step: the stores that it makes on the flash that it meets
-abbrev pub Step : Type 0
-Step = List ℕ → List Store
 
 abbrev pub erase : Area → ℕ → Store
 erase a i = wipe (base a i) (a .words)

@@ -1,6 +1,6 @@
 -- The numbers and values of answers, when each refusal is given, the order of checks, and outcomes under power: document 01, "Refusal
 -- numbers". BADFRAME is the console's. Definitions alone. Assumes nothing.
-use mathlib.Core.List.{List, [], _∷_, _++_}
+use mathlib.Core.List.{List, [], _∷_}
 use mathlib.Core.Bool.{Bool, true, false, cond, not, _&&_, _||_}
 use mathlib.Core.Option.{Option, some, none}
 use Prim.Native.Nat.{ℕ, _+_, _*_}
