@@ -1,7 +1,7 @@
 // Flash words under power: a word store, a page's erase, and a read.
 //
-// Every function here is proved, and none has a `requires`. `store` and `erase`, with `fill`, the
-// erase's loop, alone change the manager's flash, and without power they change nothing.
+// Every function here is proved, and none has a `requires`. `store` and `erase` alone change the
+// manager's flash, and without power they change nothing; `fill` is the loop of `erase`.
 ghost use mathlib.Core.Path.{_≡_};
 ghost use mathlib.Core.List.{[], _∷_};
 ghost use lib.ListN.{getD};

@@ -1,5 +1,5 @@
--- The definitions computed at their edges, on areas that are crafted word by word: every cause of GEOMETRY and DAMAGED, the order of
--- checks, room to the last word, compaction and recovery with the words of every page. Assumes nothing.
+-- The definitions computed at their edges, on areas that are crafted word by word: causes of GEOMETRY and DAMAGED, the order of checks,
+-- room to the last word, compaction and recovery with the words of every page. Assumes nothing.
 use mathlib.Core.Path.{_≡_, refl}
 use mathlib.Core.List.{List, [], _∷_, _++_, map}
 use mathlib.Core.Option.{some}
@@ -70,11 +70,13 @@ damages =
     -- words behind the seal, and behind a blank word
     ∷ broken (0x10100408 ∷ 0xFFFF0001 ∷ 0x7FFFFFFF ∷ 0x00000000 ∷ []) []
     ∷ broken (0x10100408 ∷ 0xFFFF0001 ∷ 0xFFFFFFFF ∷ 0x7FFFFFFF ∷ []) []
-    -- R: word 0, the count, an index that is not below N, no seal
+    -- R: word 0, the count, an index that is not below N, no seal, a header of length 0, words behind the seal
     ∷ broken fresh (0x10100409 ∷ 0xFFFF0001 ∷ 0x7FFFFFFF ∷ [])
     ∷ broken fresh (0x10100408 ∷ 0xFFFF0002 ∷ 0x7FFFFFFF ∷ [])
     ∷ broken fresh (0x10100408 ∷ 0xFFFF0101 ∷ 0x7FFFFFFF ∷ [])
     ∷ broken fresh (0x10100408 ∷ 0xFFFF0001 ∷ [])
+    ∷ broken fresh (0x10100408 ∷ 0xFFFF0001 ∷ 0x00010000 ∷ 0x7FFFFFFF ∷ [])
+    ∷ broken fresh (0x10100408 ∷ 0xFFFF0001 ∷ 0x7FFFFFFF ∷ 0x00000000 ∷ [])
     ∷ []
 
 -- ---- requests
