@@ -1,0 +1,136 @@
+-- The few words in which the demands are stated. Definitions alone. Assumes nothing.
+use mathlib.Core.Path.{_≡_}
+use mathlib.Core.List.{List, [], _∷_}
+use mathlib.Core.Bool.{Bool, true, false, cond}
+use mathlib.Core.Option.{Option, some, none}
+use mathlib.Core.Logic.{_≢_}
+use Prim.Native.Nat.{ℕ, _+_, _≤_, _<_}
+use lib.ListN.{length, getD}
+use lib.Bits.{bitAnd}
+use lib.Dec.{eqb}
+use Rattle.flash.specs.Stores.{Words, Store, put, wipe, stored, wiped, made}
+use Rattle.rules.specs.declared.Area.{Area}
+use Rattle.rules.specs.declared.Answer.{Answer}
+use Rattle.rules.specs.declared.Refusal.{Refusal}
+use Rattle.rules.specs.declared.Refusal.the-variants.{NotFound}
+use Rattle.rules.specs.Walk.{entryLength}
+use Rattle.rules.specs.Areas.{mapOf, ready}
+use Rattle.rules.specs.Refusals.{wrongGeometry, badHandle, badLength, Outcome, outcome}
+use Rattle.rules.specs.Lists.{recoverList, recoverPlan, Request, format, recover, write, delete, planOf}
+
+-- a flash of 32-bit words, and an area on it whose geometry is right
+pub record Given (a : Area) (f : List ℕ) : Type 0 where
+  pub words : Words f
+  pub right : wrongGeometry a f ≡ false
+
+-- Made in order on the flash f, each store lies inside it, and each word store leaves the very word that it asks for: no cleared bit
+-- is asked to come back.
+pub data Fair : List Store → List ℕ → Type 0 where
+  fair-end : {f : List ℕ} → Fair [] f
+  fair-put : {at w : ℕ} {ss : List Store} {f : List ℕ} → at < length f → bitAnd (getD f at 0) w ≡ w → Fair ss (stored f at w)
+      → Fair (put at w ∷ ss) f
+  fair-wipe : {at n : ℕ} {ss : List Store} {f : List ℕ} → at + n ≤ length f → Fair ss (wiped f at n) → Fair (wipe at n ∷ ss) f
+
+-- ---- requests and maps
+-- a write or a delete of a handle that entries may have; the data of a write is at most 32 words of 32 bits
+abbrev pub Proper : Request → Type 0
+Proper format = ⊥
+Proper recover = ⊥
+Proper (write h d) = (badHandle h ≡ false) × (badLength d ≡ false) × Words d
+Proper (delete h) = badHandle h ≡ false
+
+-- the handle that a request changes, the data that the handle has afterwards, and the words of a new entry
+abbrev pub handleIn : Request → ℕ
+handleIn format = 0
+handleIn recover = 0
+handleIn (write h d) = h
+handleIn (delete h) = h
+
+abbrev pub dataIn : Request → Option (List ℕ)
+dataIn format = none
+dataIn recover = none
+dataIn (write h d) = some d
+dataIn (delete h) = none
+
+abbrev pub newWords : Request → ℕ
+newWords format = 0
+newWords recover = 0
+newWords (write h d) = entryLength d
+newWords (delete h) = 0
+
+abbrev pub Map : Type 0
+Map = ℕ → Option (List ℕ)
+
+-- a map with the change of a request made, and with those of several
+abbrev pub changed : Request → Map → Map
+changed r m u = cond (eqb u (handleIn r)) (dataIn r) (m u)
+
+abbrev pub changedAll : List Request → Map → Map
+changedAll [] m = m
+changedAll (r ∷ rs) m = changedAll rs (changed r m)
+
+abbrev pub newWordsAll : List Request → ℕ
+newWordsAll [] = 0
+newWordsAll (r ∷ rs) = newWords r + newWordsAll rs
+
+-- the area is ready, and its map is m
+pub record Holds (a : Area) (f : List ℕ) (m : Map) : Type 0 where
+  pub ready : ready a f ≡ true
+  pub map : (u : ℕ) → mapOf a f u ≡ m u
+
+-- ---- power cuts
+abbrev pub wasCut : Answer → Bool
+wasCut (Answer.Done s) = false
+wasCut (Answer.Cut s) = true
+wasCut (Answer.Refused n) = false
+
+-- the flash after all of a recovery
+abbrev pub recovered : Area → List ℕ → List ℕ
+recovered a f = made (recoverList a f) f
+
+-- a request with power for k stores
+abbrev pub run : Area → Request → ℕ → List ℕ → Outcome
+run a r k f = outcome (planOf a r) k f
+
+-- recoveries, any number of them cut, and at last one that is not
+pub data Recovers (a : Area) : List ℕ → List ℕ → Type 0 where
+  whole : {f : List ℕ} (k : ℕ) → wasCut (run a recover k f .answer) ≡ false → Recovers a f (run a recover k f .flash)
+  after-cut : {f g : List ℕ} (k : ℕ) → wasCut (run a recover k f .answer) ≡ true → Recovers a (run a recover k f .flash) g → Recovers a f g
+
+-- a request carried through: any number of times it is cut, recovered and asked again, until it is not cut and gives its answer
+pub data Carried (a : Area) (r : Request) : List ℕ → Answer → List ℕ → Type 0 where
+  uncut : {f : List ℕ} (k : ℕ) → wasCut (run a r k f .answer) ≡ false → Carried a r f (run a r k f .answer) (run a r k f .flash)
+  asked-again : {f g h : List ℕ} {x : Answer} (k : ℕ) → wasCut (run a r k f .answer) ≡ true → Recovers a (run a r k f .flash) g
+      → Carried a r g x h → Carried a r f x h
+
+-- requests carried through one after the other, with their answers
+pub data CarriedAll (a : Area) : List Request → List ℕ → List Answer → List ℕ → Type 0 where
+  no-more : {f : List ℕ} → CarriedAll a [] f [] f
+  and-then : {r : Request} {rs : List Request} {f g h : List ℕ} {x : Answer} {xs : List Answer} → Carried a r f x g → CarriedAll a rs g xs h
+      → CarriedAll a (r ∷ rs) f (x ∷ xs) h
+
+-- ---- several requests
+abbrev pub ProperAll : List Request → Type 0
+ProperAll [] = Unit {0}
+ProperAll (r ∷ rs) = Proper r × ProperAll rs
+
+-- on other handles than h, and on handles that all differ
+abbrev pub Others : ℕ → List Request → Type 0
+Others h [] = Unit {0}
+Others h (r ∷ rs) = (handleIn r ≢ h) × Others h rs
+
+abbrev pub AllDiffer : List Request → Type 0
+AllDiffer [] = Unit {0}
+AllDiffer (r ∷ rs) = Others (handleIn r) rs × AllDiffer rs
+
+-- DONE; or NOTFOUND, for a delete of what the map m has not
+abbrev pub Fine : Map → Request → Answer → Type 0
+Fine m r (Answer.Done s) = Unit {0}
+Fine m r (Answer.Cut s) = ⊥
+Fine m r (Answer.Refused n) = (n ≡ NotFound) × (r ≡ delete (handleIn r)) × (m (handleIn r) ≡ none)
+
+abbrev pub FineAll : Map → List Request → List Answer → Type 0
+FineAll m [] [] = Unit {0}
+FineAll m [] (x ∷ xs) = ⊥
+FineAll m (r ∷ rs) [] = ⊥
+FineAll m (r ∷ rs) (x ∷ xs) = Fine m r x × FineAll m rs xs
