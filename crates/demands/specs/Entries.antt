@@ -1,0 +1,312 @@
+-- Lists of entries: the data, the doubles and the live words of a list in which an entry is put in, invalidated, superseded or copied.
+-- Assumes nothing.
+use mathlib.Core.Path.{_≡_, refl, ap, sym, _∙_}
+use mathlib.Core.Logic.{⊎-elim, _⊎_, inl, inr}
+use mathlib.Core.List.{List, [], _∷_, _++_, nil≢cons, head-eq-of-cons-eq, tail-eq-of-cons-eq}
+use mathlib.Core.Bool.{Bool, true, false, cond, _&&_, _||_, or-true, true≢false}
+use mathlib.Core.Option.{Option, some, none}
+use Prim.Native.Nat.{ℕ, _+_}
+use native.Mathlib.Omega.{arith}
+use lib.ListN.{length, length-append}
+use lib.Dec.{eqb}
+use borrow.Author.Tests.{eqb-true, eqb-false, eq-eqb}
+use Rattle.flash.specs.Stores.{Store}
+use Rattle.rules.specs.Words.{isLive}
+use Rattle.rules.specs.Walk.{Item, entryLength, codes}
+use Rattle.rules.specs.Areas.{Entry, placed, anyOf, firstOf, liveOf, doubled, twice, find, dataOf, liveWords}
+use Rattle.rules.specs.Lists.{bare, keepLive, supersede}
+use Rattle.rules.specs.Laws.{and-left, and-right}
+
+-- an entry whose header is its bare length
+abbrev pub zeroed : Entry → Entry
+zeroed e = record { place = e .place; handle = 0; words = e .words }
+
+-- the data of a handle
+abbrev pub look : ℕ → List Entry → Option (List ℕ)
+look h es = dataOf (find h es)
+
+-- ---- tests
+untrue : (b : Bool) → (b ≡ true → ⊥) → b ≡ false
+untrue true h = absurd (h refl)
+untrue false h = refl
+
+neither-left : (a b : Bool) → a || b ≡ false → a ≡ false
+neither-left true b e = e
+neither-left false b e = refl
+
+neither-right : (a b : Bool) → a || b ≡ false → b ≡ false
+neither-right true b e = absurd (true≢false e)
+neither-right false b e = e
+
+-- ---- one entry
+pub live-handle : (h : ℕ) (e : Entry) → liveOf h e ≡ true → (isLive h ≡ true) × (e .handle ≡ h)
+live-handle h e q = (and-left (isLive h) _ q, eqb-true (e .handle) h (and-right (isLive h) _ q))
+
+pub live-mine : (h : ℕ) (e : Entry) → isLive h ≡ true → e .handle ≡ h → liveOf h e ≡ true
+live-mine h e q k = rw q (eq-eqb (e .handle) h k)
+
+live-self : (h : ℕ) (e : Entry) → liveOf h e ≡ true → isLive (e .handle) ≡ true
+live-self h e q = let t = live-handle h e q in ap isLive (t .1) ∙ t .0
+
+dead-never : (h : ℕ) (e : Entry) → isLive (e .handle) ≡ false → liveOf h e ≡ false
+dead-never h e q = untrue (liveOf h e) (λ p. true≢false (sym (live-self h e p) ∙ q))
+
+pub zeroed-dead : (h : ℕ) (e : Entry) → liveOf h (zeroed e) ≡ false
+zeroed-dead h e = dead-never h (zeroed e) refl
+
+other-never : (h : ℕ) (e : Entry) → eqb h (e .handle) ≡ false → liveOf h e ≡ false
+other-never h e q = untrue (liveOf h e) (λ p. eqb-false h (e .handle) q (sym (live-handle h e p .1)))
+
+live-turn : (c e : Entry) → liveOf (e .handle) c ≡ false → liveOf (c .handle) e ≡ false
+live-turn c e q =
+    untrue (liveOf (c .handle) e)
+    (λ p. true≢false (sym (live-mine (e .handle) c (live-self (c .handle) e p) (sym (live-handle (c .handle) e p .1))) ∙ q))
+
+-- ---- anyOf and firstOf
+pub any-skip : (t : Entry → Bool) (x : List Entry) (e : Entry) (y : List Entry) → t e ≡ false → anyOf t (x ++ e ∷ y) ≡ anyOf t (x ++ y)
+any-skip t [] e y q = rw q
+any-skip t (c ∷ x) e y q = rw (any-skip t x e y q)
+
+pub first-skip : (t : Entry → Bool) (x : List Entry) (e : Entry) (y : List Entry) → t e ≡ false → firstOf t (x ++ e ∷ y) ≡ firstOf t (x ++ y)
+first-skip t [] e y q = rw q
+first-skip t (c ∷ x) e y q = rw (first-skip t x e y q)
+
+any-right : (t : Entry → Bool) (x y : List Entry) → anyOf t y ≡ true → anyOf t (x ++ y) ≡ true
+any-right t [] y q = q
+any-right t (c ∷ x) y q = rw (any-right t x y q) (or-true (t c))
+
+pub any-at : (t : Entry → Bool) (x : List Entry) (e : Entry) (y : List Entry) → t e ≡ true → anyOf t (x ++ e ∷ y) ≡ true
+any-at t x e y q = any-right t x (e ∷ y) (rw q)
+
+none-at : (t : Entry → Bool) (x : List Entry) (e : Entry) (y : List Entry) → anyOf t (x ++ e ∷ y) ≡ false → t e ≡ false
+none-at t x e y q = untrue (t e) (λ p. true≢false (sym (any-at t x e y p) ∙ q))
+
+none-drop : (t : Entry → Bool) (x : List Entry) (e : Entry) (y : List Entry) → anyOf t (x ++ e ∷ y) ≡ false → anyOf t (x ++ y) ≡ false
+none-drop t x e y q = sym (any-skip t x e y (none-at t x e y q)) ∙ q
+
+none-dead : (h : ℕ) (x : List Entry) → isLive h ≡ false → anyOf (liveOf h) x ≡ false
+none-dead h [] q = refl
+none-dead h (c ∷ x) q = rw q (none-dead h x q)
+
+first-at : (t : Entry → Bool) (x : List Entry) (e : Entry) (y : List Entry) → t e ≡ true → anyOf t (x ++ y) ≡ false → firstOf t (x ++ e ∷ y) ≡ some e
+first-at t [] e y p q = rw p
+first-at t (c ∷ x) e y p q = rw (neither-left (t c) _ q) (first-at t x e y p (neither-right (t c) _ q))
+
+pub find-some : (h : ℕ) (x : List Entry) (e : Entry) → find h x ≡ some e → (p s : List Entry) × (x ≡ p ++ e ∷ s) × (e .handle ≡ h) × (isLive h ≡ true)
+find-some h [] e q = absurd (let z : _≡_ {A = ℕ} 0 1 = cc in omega arith)
+find-some h (c ∷ x) e q = go (liveOf h c) refl q (find-some h x e)
+  where
+    go : (b : Bool) → liveOf h c ≡ b → cond b (some c) (find h x) ≡ some e
+        → (find h x ≡ some e → (p s : List Entry) × (x ≡ p ++ e ∷ s) × (e .handle ≡ h) × (isLive h ≡ true))
+        → (p s : List Entry) × (c ∷ x ≡ p ++ e ∷ s) × (e .handle ≡ h) × (isLive h ≡ true)
+    go true r q ih =
+        let k : c ≡ e = cc in
+        let t = live-handle h c r in
+        ([], x, ap (λ (u : Entry). u ∷ x) k, ap (λ (u : Entry). u .handle) (sym k) ∙ t .1, t .0)
+    go false r q ih = let t = ih q in (c ∷ t .0, t .1, ap (λ (u : List Entry). c ∷ u) (t .2), t .3, t .4)
+
+pub find-none : (h : ℕ) (x : List Entry) → find h x ≡ none → anyOf (liveOf h) x ≡ false
+find-none h [] q = refl
+find-none h (c ∷ x) q = go (liveOf h c) refl q (find-none h x)
+  where
+    go : (b : Bool) → liveOf h c ≡ b → cond b (some c) (find h x) ≡ none → (find h x ≡ none → anyOf (liveOf h) x ≡ false) → anyOf (liveOf h) (c ∷ x) ≡ false
+    go true r q ih = absurd (let z : _≡_ {A = ℕ} 0 1 = cc in omega arith)
+    go false r q ih = rw r (ih q)
+
+pub none-find : (h : ℕ) (x : List Entry) → anyOf (liveOf h) x ≡ false → find h x ≡ none
+none-find h [] q = refl
+none-find h (c ∷ x) q = rw (neither-left (liveOf h c) _ q) (none-find h x (neither-right (liveOf h c) _ q))
+
+-- ---- twice
+pub once-insert : (x : List Entry) (e : Entry) (y : List Entry) → anyOf (liveOf (e .handle)) (x ++ y) ≡ false → twice (x ++ y) ≡ false → twice (x ++ e ∷ y) ≡ false
+once-insert [] e y q t = rw (q, t)
+once-insert (c ∷ x) e y q t =
+    let a = neither-left (liveOf (e .handle) c) _ q in
+    let b = neither-right (liveOf (e .handle) c) _ q in
+    let u = neither-left (doubled c (x ++ y)) _ t in
+    let v = neither-right (doubled c (x ++ y)) _ t in
+    rw (any-skip (liveOf (c .handle)) x e y (live-turn c e a), u) (once-insert x e y b v)
+
+pub once-drop : (x : List Entry) (e : Entry) (y : List Entry) → twice (x ++ e ∷ y) ≡ false → twice (x ++ y) ≡ false
+once-drop [] e y t = neither-right (doubled e y) _ t
+once-drop (c ∷ x) e y t =
+    let u = neither-left (doubled c (x ++ e ∷ y)) _ t in
+    let v = neither-right (doubled c (x ++ e ∷ y)) _ t in
+    rw (none-drop (liveOf (c .handle)) x e y u) (once-drop x e y v)
+
+-- the handle of a live entry is live nowhere else
+pub once-apart : (x : List Entry) (e : Entry) (y : List Entry) → twice (x ++ e ∷ y) ≡ false → anyOf (liveOf (e .handle)) (x ++ y) ≡ false
+once-apart [] e y t = neither-left (doubled e y) _ t
+once-apart (c ∷ x) e y t =
+    let u = neither-left (doubled c (x ++ e ∷ y)) _ t in
+    let v = neither-right (doubled c (x ++ e ∷ y)) _ t in
+    rw (live-turn e c (none-at (liveOf (c .handle)) x e y u)) (once-apart x e y v)
+
+-- ---- lists in which no handle sees a difference: the second has the entries of the first, wherever they stand, and dead ones
+data Alike : List Entry → List Entry → Type 0 where
+  end : Alike [] []
+  same : {c d : Entry} {x y : List Entry} → c .handle ≡ d .handle → c .words ≡ d .words → Alike x y → Alike (c ∷ x) (d ∷ y)
+  dead : {d : Entry} {x y : List Entry} → isLive (d .handle) ≡ false → Alike x y → Alike x (d ∷ y)
+
+alike-self : (x : List Entry) → Alike x x
+alike-self [] = end
+alike-self (c ∷ x) = same refl refl (alike-self x)
+
+alike-append : {x y v w : List Entry} → Alike x y → Alike v w → Alike (x ++ v) (y ++ w)
+alike-append end t = t
+alike-append (same h d s) t = same h d (alike-append s t)
+alike-append (dead q s) t = dead q (alike-append s t)
+
+alike-any : {x y : List Entry} (h : ℕ) → Alike x y → anyOf (liveOf h) x ≡ anyOf (liveOf h) y
+alike-any h end = refl
+alike-any h (same k d s) = rw (k, alike-any h s)
+alike-any h (dead {d} q s) = rw (dead-never h d q) (alike-any h s)
+
+alike-look : {x y : List Entry} (h : ℕ) → Alike x y → look h x ≡ look h y
+alike-look h end = refl
+alike-look h (same {c} {d} {x} {y} k w s) =
+    ap (λ (u : ℕ). dataOf (cond (isLive h && eqb u h) (some c) (find h x))) k ∙ go (liveOf h d) (alike-look h s)
+  where
+    go : (b : Bool) → look h x ≡ look h y → dataOf (cond b (some c) (find h x)) ≡ dataOf (cond b (some d) (find h y))
+    go true ih = ap (λ (u : List ℕ). some u) w
+    go false ih = ih
+alike-look h (dead {d} q s) = rw (dead-never h d q) (alike-look h s)
+
+alike-twice : {x y : List Entry} → Alike x y → twice x ≡ twice y
+alike-twice end = refl
+alike-twice (same {d = d} k w s) = rw (k, alike-any (d .handle) s, alike-twice s)
+alike-twice (dead {d} {x} {y} q s) = rw (none-dead (d .handle) y q) (alike-twice s)
+
+alike-live : {x y : List Entry} → Alike x y → liveWords x ≡ liveWords y
+alike-live end = refl
+alike-live (same k w s) = rw (k, w, alike-live s)
+alike-live (dead q s) = let ih = alike-live s in rw q (omega arith)
+
+alike-skip : (x : List Entry) (e : Entry) (y : List Entry) → Alike (x ++ y) (x ++ zeroed e ∷ y)
+alike-skip x e y = alike-append (alike-self x) (dead refl (alike-self y))
+
+pub twice-skip : (x : List Entry) (e : Entry) (y : List Entry) → twice (x ++ zeroed e ∷ y) ≡ twice (x ++ y)
+twice-skip x e y = sym (alike-twice (alike-skip x e y))
+
+-- ---- look
+pub look-skip : (u : ℕ) (x : List Entry) (e : Entry) (y : List Entry) → look u (x ++ zeroed e ∷ y) ≡ look u (x ++ y)
+look-skip u x e y = sym (alike-look u (alike-skip x e y))
+
+pub look-other : (u : ℕ) (x : List Entry) (e : Entry) (y : List Entry) → eqb u (e .handle) ≡ false → look u (x ++ e ∷ y) ≡ look u (x ++ y)
+look-other u x e y q = ap dataOf (first-skip (liveOf u) x e y (other-never u e q))
+
+pub look-drop : (u : ℕ) (x : List Entry) (e : Entry) (y : List Entry) → twice (x ++ e ∷ y) ≡ false
+    → look u (x ++ zeroed e ∷ y) ≡ cond (eqb u (e .handle)) none (look u (x ++ e ∷ y))
+look-drop u x e y t = look-skip u x e y ∙ go (eqb u (e .handle)) refl
+  where
+    go : (b : Bool) → eqb u (e .handle) ≡ b → look u (x ++ y) ≡ cond b none (look u (x ++ e ∷ y))
+    go true q = rw (eqb-true u (e .handle) q) (ap dataOf (none-find (e .handle) (x ++ y) (once-apart x e y t)))
+    go false q = sym (look-other u x e y q)
+
+pub look-add : (u : ℕ) (x : List Entry) (e : Entry) (y : List Entry) → isLive (e .handle) ≡ true → anyOf (liveOf (e .handle)) (x ++ y) ≡ false
+    → look u (x ++ e ∷ y) ≡ cond (eqb u (e .handle)) (some (e .words)) (look u (x ++ y))
+look-add u x e y l n = go (eqb u (e .handle)) refl
+  where
+    go : (b : Bool) → eqb u (e .handle) ≡ b → look u (x ++ e ∷ y) ≡ cond b (some (e .words)) (look u (x ++ y))
+    go true q = rw (eqb-true u (e .handle) q) (ap dataOf (first-at (liveOf (e .handle)) x e y (live-mine (e .handle) e l refl) n))
+    go false q = look-other u x e y q
+
+-- ---- live words
+pub live-append : (x y : List Entry) → liveWords (x ++ y) ≡ liveWords x + liveWords y
+live-append [] y = omega arith
+live-append (e ∷ x) y = let ih = live-append x y in omega arith
+
+pub live-at : (x : List Entry) (e : Entry) (y : List Entry) → liveWords (x ++ e ∷ y) ≡ cond (isLive (e .handle)) (entryLength (e .words)) 0 + liveWords (x ++ y)
+live-at x e y = omega (arith, live-append x (e ∷ y), live-append x y)
+
+pub live-skip : (x : List Entry) (e : Entry) (y : List Entry) → liveWords (x ++ zeroed e ∷ y) ≡ liveWords (x ++ y)
+live-skip x e y = sym (alike-live (alike-skip x e y))
+
+-- ---- doubles
+pub supersede-none : (x : List Entry) → twice x ≡ false → supersede x ≡ []
+supersede-none [] q = refl
+supersede-none (e ∷ x) q = rw (neither-left (doubled e x) _ q) (supersede-none x (neither-right (doubled e x) _ q))
+
+pub none-supersede : (x : List Entry) → supersede x ≡ [] → twice x ≡ false
+none-supersede [] q = refl
+none-supersede (e ∷ x) q = go (doubled e x) refl q (none-supersede x)
+  where
+    go : (b : Bool) → doubled e x ≡ b → cond b (bare e ∷ supersede x) (supersede x) ≡ [] → (supersede x ≡ [] → twice x ≡ false) → twice (e ∷ x) ≡ false
+    go true r q ih = absurd (nil≢cons (sym q))
+    go false r q ih = rw r (ih q)
+
+pub supersede-one : (p : List Entry) (e : Entry) (s : List Entry) → doubled e s ≡ true → twice (p ++ zeroed e ∷ s) ≡ false → supersede (p ++ e ∷ s) ≡ bare e ∷ []
+supersede-one [] e s d t = rw (d, supersede-none s (once-drop [] (zeroed e) s t))
+supersede-one (c ∷ p) e s d t = rw (any-skip (liveOf (c .handle)) p e s other ∙ n) (supersede-one p e s d (neither-right (doubled c (p ++ zeroed e ∷ s)) _ t))
+  where
+    n : doubled c (p ++ s) ≡ false
+    n = none-drop (liveOf (c .handle)) p (zeroed e) s (neither-left (doubled c (p ++ zeroed e ∷ s)) _ t)
+
+    other : liveOf (c .handle) e ≡ false
+    other =
+        untrue (liveOf (c .handle) e)
+        (λ l. let k = live-handle (c .handle) e l .1 in
+        true≢false (sym (any-right (liveOf (c .handle)) p s (ap (λ (u : ℕ). anyOf (liveOf u) s) (sym k) ∙ d)) ∙ n))
+
+pub supersede-first : (x : List Entry) (s : Store) (ss : List Store) → supersede x ≡ s ∷ ss
+    → (p : List Entry) × (e : Entry) × (q : List Entry) × (x ≡ p ++ e ∷ q) × (s ≡ bare e) × (supersede (p ++ zeroed e ∷ q) ≡ ss)
+supersede-first [] s ss q = absurd (nil≢cons q)
+supersede-first (c ∷ x) s ss q = go (doubled c x) refl q (supersede-first x s ss)
+  where
+    go : (b : Bool) → doubled c x ≡ b → cond b (bare c ∷ supersede x) (supersede x) ≡ s ∷ ss
+        → (supersede x ≡ s ∷ ss → (p : List Entry) × (e : Entry) × (q : List Entry) × (x ≡ p ++ e ∷ q) × (s ≡ bare e) × (supersede (p ++ zeroed e ∷ q) ≡ ss))
+        → (p : List Entry) × (e : Entry) × (q : List Entry) × (c ∷ x ≡ p ++ e ∷ q) × (s ≡ bare e) × (supersede (p ++ zeroed e ∷ q) ≡ ss)
+    go true r q ih = ([], c, x, refl, sym (head-eq-of-cons-eq q), rw (none-dead 0 x refl) (tail-eq-of-cons-eq q))
+    go false r q ih =
+        let t = ih q in
+        let n : doubled c (t .0 ++ t .1 ∷ t .2) ≡ false = ap (λ (u : List Entry). doubled c u) (sym (t .3)) ∙ r in
+        let m : doubled c (t .0 ++ zeroed (t .1) ∷ t .2) ≡ false =
+        any-skip (liveOf (c .handle)) (t .0) (zeroed (t .1)) (t .2) (zeroed-dead (c .handle) (t .1)) ∙ none-drop (liveOf (c .handle)) (t .0) (t .1) (t .2) n in
+        (c ∷ t .0, t .1, t .2, ap (λ (u : List Entry). c ∷ u) (t .3), t .4, rw m (t .5))
+
+-- ---- cuts
+pub split-append {ℓ} : {A : Type ℓ} (x y p : List A) (e : A) (s : List A) → x ++ y ≡ p ++ e ∷ s
+    → ((t : List A) × (x ≡ p ++ e ∷ t) × (s ≡ t ++ y)) ⊎ ((t : List A) × (p ≡ x ++ t) × (y ≡ t ++ e ∷ s))
+split-append [] y p e s q = inr (p, refl, q)
+split-append (c ∷ x) y [] e s q = inl (x, ap (λ u. u ∷ x) (head-eq-of-cons-eq q), sym (tail-eq-of-cons-eq q))
+split-append {A = A} (c ∷ x) y (d ∷ p) e s q = ⊎-elim left right (split-append x y p e s (tail-eq-of-cons-eq q))
+  where
+    hd : c ≡ d
+    hd = head-eq-of-cons-eq q
+
+    left : ((t : List A) × (x ≡ p ++ e ∷ t) × (s ≡ t ++ y)) → ((t : List A) × (c ∷ x ≡ (d ∷ p) ++ e ∷ t) × (s ≡ t ++ y)) ⊎ ((t : List A) × (d ∷ p ≡ (c ∷ x) ++ t) × (y ≡ t ++ e ∷ s))
+    left r = inl (r .0, (λ i. hd i ∷ r .1 i), r .2)
+
+    right : ((t : List A) × (p ≡ x ++ t) × (y ≡ t ++ e ∷ s)) → ((t : List A) × (c ∷ x ≡ (d ∷ p) ++ e ∷ t) × (s ≡ t ++ y)) ⊎ ((t : List A) × (d ∷ p ≡ (c ∷ x) ++ t) × (y ≡ t ++ e ∷ s))
+    right r = inr (r .0, (λ i. sym hd i ∷ r .1 i), r .2)
+
+-- ---- the live entries alone, in another place
+alike-kept : (at bt : ℕ) (es : List Item) → Alike (placed at (keepLive es)) (placed bt es)
+alike-kept at bt [] = end
+alike-kept at bt (e ∷ es) = go (isLive (e .handle)) refl (λ a. alike-kept a (bt + entryLength (e .words)) es)
+  where
+    go : (b : Bool) → isLive (e .handle) ≡ b → ((a : ℕ) → Alike (placed a (keepLive es)) (placed (bt + entryLength (e .words)) es))
+        → Alike (placed at (keepLive (e ∷ es))) (placed bt (e ∷ es))
+    go true q ih = rw q (same refl refl (ih (at + entryLength (e .words))))
+    go false q ih = rw q (dead q (ih at))
+
+alike-among : (A : List Entry) (at bt : ℕ) (es : List Item) (B : List Entry) → Alike (A ++ (placed at (keepLive es) ++ B)) (A ++ (placed bt es ++ B))
+alike-among A at bt es B = alike-append (alike-self A) (alike-append (alike-kept at bt es) (alike-self B))
+
+pub look-kept : (u : ℕ) (A : List Entry) (at bt : ℕ) (es : List Item) (B : List Entry) → look u (A ++ (placed at (keepLive es) ++ B)) ≡ look u (A ++ (placed bt es ++ B))
+look-kept u A at bt es B = alike-look u (alike-among A at bt es B)
+
+pub twice-kept : (A : List Entry) (at bt : ℕ) (es : List Item) (B : List Entry) → twice (A ++ (placed at (keepLive es) ++ B)) ≡ twice (A ++ (placed bt es ++ B))
+twice-kept A at bt es B = alike-twice (alike-among A at bt es B)
+
+pub live-kept : (at : ℕ) (es : List Item) → liveWords (placed at es) ≡ length (codes (keepLive es))
+live-kept at [] = refl
+live-kept at (e ∷ es) = go (isLive (e .handle)) refl (live-kept (at + entryLength (e .words)) es)
+  where
+    go : (b : Bool) → isLive (e .handle) ≡ b → liveWords (placed (at + entryLength (e .words)) es) ≡ length (codes (keepLive es))
+        → liveWords (placed at (e ∷ es)) ≡ length (codes (keepLive (e ∷ es)))
+    go true q ih = rw q (simp length-append (omega arith))
+    go false q ih = rw q (omega arith)
+
+pub live-same : (at bt : ℕ) (es : List Item) → liveWords (placed at (keepLive es)) ≡ liveWords (placed bt es)
+live-same at bt es = alike-live (alike-kept at bt es)

@@ -1,0 +1,325 @@
+-- Areas whose R is free: what makes them ready, an entry invalidated, and recovery's steps (b) and (c), which cut anywhere go on with
+-- the stores that are left. Assumes nothing.
+use mathlib.Core.Path.{_≡_, refl, ap, sym, _∙_, subst}
+use mathlib.Core.Logic.{⊎-elim, _⊎_, inl, inr, _≢_}
+use mathlib.Core.List.{List, [], _∷_, _++_, append-assoc, append-nil, nil≢cons, head-eq-of-cons-eq, tail-eq-of-cons-eq}
+use mathlib.Core.Bool.{Bool, true, false, cond, not, _&&_, false≢true}
+use mathlib.Core.Option.{Option, some, none}
+use Prim.Native.Nat.{ℕ, suc, zero, _+_, _-_, _≤_, _<_, zero-le}
+use native.Mathlib.Omega.{arith}
+use native.Mathlib.Nat.{eq-or-lt-of-le, le-of-suc-le-suc}
+use lib.ListN.{length, getD, length-append}
+use lib.Bits.{bitAnd}
+use lib.Dec.{eqb, ltb}
+use borrow.Author.Tests.{not-true, ne-eqb, lt-ltb, ltb-true}
+use Rattle.flash.specs.Stores.{blank, Words, Store, put, stored, apply, made, madeFirst, Step, _then_, each}
+use Rattle.flash.specs.Laws.{words-made, length-made}
+use Rattle.rules.specs.declared.Area.{Area}
+use Rattle.rules.specs.Words.{meta1, indexOf, header, special, isLive, seal}
+use Rattle.rules.specs.Walk.{Item, entryLength, codes, items, stop, allBlank, Kind, sealed, torn, neither, kindOf, isSealed, isSound}
+use Rattle.rules.specs.Areas.{R, base, page, kind, every, Recovery, free, unfinished, committed, damage, recoveryOf, recovery, isFree, names, Entry, placed, pageEntries, entries, twice, damaged, ready}
+use Rattle.rules.specs.Lists.{bare, lastOf, bareIfLive, mend, supersede, dropDoubles}
+use Rattle.rules.specs.Laws.{and-left, and-right}
+use Rattle.demands.specs.Terms.{Given, Fair}
+use Rattle.demands.specs.Stages.{after, Peels, then-peels, each-peels, each-ends, each-rests}
+use Rattle.demands.specs.Pages.{blanks, item, image, Good, Goods, no-item, good-item, goods-append, goods-left, goods-right, goods-head, goods-items, bare-header, header-dead, at-seal, at-blank, blank-all, all-blank, items-image, kind-image, stop-image, sealed-shape, torn-shape, is-sealed, codes-append, front, length-front, image-front, image-at}
+use Rattle.demands.specs.Runs.{same-or-not, Right, right, right-wrong, page-in, length-page, Only, Turns, turns-as, turns-put, every-true, true-every}
+use Rattle.demands.specs.Entries.{zeroed, none-supersede, supersede-first}
+use Rattle.demands.specs.Layout.{entryAt, placed-append, Located, located}
+
+pub given-made : {a : Area} {f : List ℕ} (ss : List Store) → Given a f → Given a (made ss f)
+given-made {a} {f} ss g = record { words = words-made ss (g .words); right = right-wrong a f (made ss f) (g .right) (length-made ss f) }
+
+pub shape-of : {a : Area} {f : List ℕ} → Given a f → Right a f
+shape-of {a} {f} g = right a f (g .right)
+
+-- ---- R
+pub blank-free : (n p : ℕ) → recoveryOf n (blanks p) ≡ free
+unfolding recoveryOf
+blank-free n p = rw (blank-all p)
+
+pub free-blank : (n : ℕ) (r : List ℕ) → recoveryOf n r ≡ free → r ≡ blanks (length r)
+unfolding recoveryOf
+free-blank n r e = go (allBlank r) refl (eqb (getD r 1 0) blank) (ltb (indexOf (getD r 1 0)) n && isSealed (kindOf n (indexOf (getD r 1 0)) r)) e
+  where
+    go : (b : Bool) → allBlank r ≡ b → (c d : Bool)
+        → cond b free (cond c unfinished (cond d (committed (indexOf (getD r 1 0))) damage)) ≡ free → r ≡ blanks (length r)
+    go true p c d q = all-blank r p
+    go false p true d q = absurd (let z : _≡_ {A = ℕ} 0 1 = cc in omega arith)
+    go false p false true q = absurd (let z : _≡_ {A = ℕ} 0 1 = cc in omega arith)
+    go false p false false q = absurd (let z : _≡_ {A = ℕ} 0 1 = cc in omega arith)
+
+is-free : (r : Recovery) → isFree r ≡ true → r ≡ free
+is-free free e = refl
+is-free unfinished e = absurd (false≢true e)
+is-free (committed i) e = absurd (false≢true e)
+is-free damage e = absurd (false≢true e)
+
+-- ---- R blank, each page sealed or torn, and those below j sealed
+pub record Mended (a : Area) (j : ℕ) (f : List ℕ) : Type 0 where
+  pub given : Given a f
+  pub spare : page a f (R a) ≡ blanks (a .words)
+  pub sound : (i : ℕ) → i < a .pages → isSound (kind a f i) ≡ true
+  pub done : (i : ℕ) → i < a .pages → i < j → kind a f i ≡ sealed
+
+-- all sealed
+abbrev pub Settled : Area → List ℕ → Type 0
+Settled a f = Mended a (a .pages) f
+
+pub mended-free : {a : Area} {j : ℕ} {f : List ℕ} → Mended a j f → recovery a f ≡ free
+mended-free {a} m = rw (m .spare) (blank-free (a .pages) (a .words))
+
+pub mended-sound : {a : Area} {j : ℕ} {f : List ℕ} → Mended a j f → damaged a f ≡ false
+unfolding damaged
+mended-sound {a} {j} {f} m =
+    rw (mended-free m, true-every (λ i. isSound (kind a f i)) (a .pages) 0 (λ i lo hi. m .sound i (omega arith)))
+
+pub settled-ready : {a : Area} {f : List ℕ} → Settled a f → twice (entries a f) ≡ false → ready a f ≡ true
+unfolding ready
+settled-ready {a} {f} s t =
+    rw (mended-free s, t, true-every (λ i. isSealed (kind a f i)) (a .pages) 0 (λ i lo hi. rw (s .done i (omega arith) (omega arith))))
+
+pub ready-settled : {a : Area} {f : List ℕ} → Given a f → ready a f ≡ true → Settled a f × (twice (entries a f) ≡ false)
+unfolding ready
+ready-settled {a} {f} g e =
+    let p = and-right (isFree (recovery a f)) _ e in
+    let fr = is-free (recovery a f) (and-left (isFree (recovery a f)) _ e) in
+    let q = and-left (every (λ i. isSealed (kind a f i)) (a .pages) 0) _ p in
+    let w : (i : ℕ) → i < a .pages → kind a f i ≡ sealed = λ i h. is-sealed (kind a f i) (every-true (λ i. isSealed (kind a f i)) (a .pages) 0 q i zero-le (omega arith)) in (
+      record {
+        given = g;
+        spare = free-blank (a .pages) (page a f (a .pages)) fr ∙ ap blanks (length-page a f (a .pages) (page-in (shape-of g) (a .pages) (omega arith)));
+        sound = λ i h. rw (w i h);
+        done = λ i h l. w i h;
+      },
+      not-true (twice (entries a f)) (and-right (every (λ i. isSealed (kind a f i)) (a .pages) 0) _ p),
+    )
+
+-- one page turned to another
+pub mended-only : {a : Area} {j : ℕ} {f g : List ℕ} {i : ℕ} {x : List ℕ} → Mended a j f → Given a g → i < a .pages → Only a f g i x
+    → isSound (kindOf (a .pages) i x) ≡ true → (i < j → kindOf (a .pages) i x ≡ sealed) → Mended a j g
+mended-only {a} {j} {f} {g} {i} {x} m v h o s d =
+    record {
+      given = v;
+      spare = o .there (a .pages) (λ q. omega arith) ∙ m .spare;
+      sound = λ l b. ⊎-elim (λ q. subst (λ (u : ℕ). isSound (kind a g u) ≡ true) q (rw (o .here) s)) (λ n. rw (o .there l n) (m .sound l b)) (same-or-not i l);
+      done = λ l b c. ⊎-elim (λ q. subst (λ (u : ℕ). kind a g u ≡ sealed) q (rw (o .here) (d (rw q c)))) (λ n. rw (o .there l n) (m .done l b c)) (same-or-not i l);
+    }
+
+pub settled-page : {a : Area} {f : List ℕ} → Settled a f → (i : ℕ) → i < a .pages → (m : ℕ) × (page a f i ≡ image (a .pages) i (items (page a f i)) (seal ∷ blanks m))
+settled-page {a} {f} s i h =
+    let r = shape-of (s .given) in
+    let w = r .wide in
+    let l = length-page a f i (page-in r i (omega arith)) in
+    sealed-shape (a .pages) i (page a f i) (omega arith) (s .done i h h)
+
+-- ---- one word of a page
+-- the header of an entry to its bare length
+pub turns-bare : (a : Area) (i : ℕ) (es : List Item) (x : Item) (fs : List Item) (t : List ℕ) (p : ℕ) → p ≡ base a i + (2 + length (codes es)) → length (x .words) ≤ 32
+    → Turns a i (put p (entryLength (x .words)) ∷ []) (image (a .pages) i (es ++ x ∷ fs) t) (image (a .pages) i (es ++ item 0 (x .words) ∷ fs) t)
+turns-bare a i es x fs t p e b =
+    let n = a .pages in
+    let l = length-front (a .pages) i es in
+    let k : entryLength (x .words) < 65536 = omega arith in
+    turns-as (image-at n i es x fs t) (rw (← header-dead (entryLength (x .words))) (sym (image-at n i es (item 0 (x .words)) fs t)))
+    (turns-put a i (front n i es) (header (x .handle) (entryLength (x .words))) (x .words ++ (codes fs ++ t)) p (entryLength (x .words)) (omega arith)
+    (bare-header (x .handle) (entryLength (x .words)) k))
+
+-- the seal behind the entries
+pub turns-seal : (a : Area) (i : ℕ) (es : List Item) (t : List ℕ) (p : ℕ) → p ≡ base a i + (2 + length (codes es))
+    → Turns a i (put p seal ∷ []) (image (a .pages) i es (blank ∷ t)) (image (a .pages) i es (seal ∷ t))
+turns-seal a i es t p e =
+    let l = length-front (a .pages) i es in
+    turns-as (image-front (a .pages) i es (blank ∷ t)) (sym (image-front (a .pages) i es (seal ∷ t)))
+    (turns-put a i (front (a .pages) i es) blank t p seal (omega arith) refl)
+
+pub dead-good : (d : List ℕ) → length d ≤ 32 → Good (item 0 d)
+dead-good d l = record { small = omega arith; short = l }
+
+-- ---- an entry invalidated
+pub record Invalidated (a : Area) (g : List ℕ) (pre : List Entry) (e : Entry) (suf : List Entry) : Type 0 where
+  pub fair : Fair (bare e ∷ []) g
+  pub settled : Settled a (apply (bare e) g)
+  pub entries : entries a (apply (bare e) g) ≡ pre ++ zeroed e ∷ suf
+
+pub invalidate : {a : Area} {g : List ℕ} (pre : List Entry) (e : Entry) (suf : List Entry) → Settled a g → entries a g ≡ pre ++ e ∷ suf → Invalidated a g pre e suf
+unfolding entries
+invalidate {a} {g} pre e suf s q =
+    let n = located a g (a .pages) 0 pre e suf q in
+    let hi = n .hi in
+    let i = n .i in
+    let h : n .i < a .pages = omega arith in
+    let x = item (e .handle) (e .words) in
+    let p = settled-page s (n .i) h in
+    let t = seal ∷ blanks (p .0) in
+    let im : page a g (n .i) ≡ image (a .pages) (n .i) (n .es ++ x ∷ n .fs) t = p .1 ∙ ap (λ (u : List Item). image (a .pages) (n .i) u t) (n .is) in
+    let gs : Goods (n .es ++ x ∷ n .fs) = subst Goods (n .is) (goods-items (page a g (n .i))) in
+    let gt = goods-right (n .es) gs in
+    let gx : Good x = goods-head gt in
+    let gz : Goods (n .es ++ item 0 (e .words) ∷ n .fs) = goods-append (goods-left (n .es) (x ∷ n .fs) gs) (good-item (dead-good (e .words) (gx .short)) (goods-right (x ∷ []) gt)) in
+    let o = turns-bare a (n .i) (n .es) x (n .fs) t (e .place) (n .place) (gx .short) .on g (page-in (shape-of (s .given)) (n .i) (omega arith)) im in
+    let c = kind-image at-seal (a .pages) (n .i) (p .0) (n .es ++ item 0 (e .words) ∷ n .fs) gz in
+    record {
+      fair = o .0;
+      settled = mended-only s (given-made (bare e ∷ []) (s .given)) h (o .1) (rw c) (λ l. c);
+      entries = n .anew (apply (bare e) g) (o .1 .there) (item 0 (e .words)) refl (rw (o .1 .here) (items-image at-seal (a .pages) (n .i) (p .0) (n .es ++ item 0 (e .words) ∷ n .fs) gz));
+    }
+
+-- ---- step (b)
+last-snoc : (es : List Entry) (x : Entry) → lastOf (es ++ (x ∷ [])) ≡ some x
+last-snoc [] x = refl
+last-snoc (e ∷ []) x = refl
+last-snoc (e ∷ (c ∷ es)) x = last-snoc (c ∷ es) x
+
+-- a list is empty, or has a last element
+data Snoc : List Item → Type 0 where
+  empty : Snoc []
+  snoc : (es : List Item) (x : Item) → Snoc (es ++ (x ∷ []))
+
+snoc-view : (es : List Item) → Snoc es
+snoc-view [] = empty
+snoc-view (e ∷ es) = go es (snoc-view es)
+  where
+    go : (l : List Item) → Snoc l → Snoc (e ∷ l)
+    go l empty = snoc [] e
+    go l (snoc fs x) = snoc (e ∷ fs) x
+
+module _ (a : Area) (i : ℕ) (h : i < a .pages) where
+  -- the stores that a torn page with the entries es takes
+  abbrev toMend : List Item → List Store
+  toMend es = bareIfLive (lastOf (placed (base a i + 2) es)) ++ put (base a i + (2 + length (codes es))) seal ∷ []
+
+  pub mend-torn : (f : List ℕ) (es : List Item) (m : ℕ) → Goods es → page a f i ≡ image (a .pages) i es (blank ∷ blanks m) → mend a i f ≡ toMend es
+  mend-torn f es m gs e =
+      let k : kind a f i ≡ torn = rw e (kind-image at-blank (a .pages) i m es gs) in
+      rw (k, e, stop-image at-blank (a .pages) i m es gs, items-image at-blank (a .pages) i m es gs)
+
+  mend-sealed : (f : List ℕ) → kind a f i ≡ sealed → mend a i f ≡ []
+  mend-sealed f e = rw e
+
+  last-placed : (es : List Item) (x : Item) → lastOf (placed (base a i + 2) (es ++ (x ∷ []))) ≡ some (entryAt (base a i + 2 + length (codes es)) x)
+  last-placed es x = rw (placed-append (base a i + 2) es (x ∷ [])) (last-snoc (placed (base a i + 2) es) (entryAt (base a i + 2 + length (codes es)) x))
+
+  -- what is wanted of the first store
+  abbrev First : ℕ → List ℕ → Store → List Store → Type 0
+  First j f x xs = Fair (x ∷ []) f × Mended a j (apply x f) × (mend a i (apply x f) ≡ xs)
+
+  module _ (j : ℕ) (below : j ≤ i) (f : List ℕ) (m : Mended a j f) where
+    fits : base a (suc i) ≤ length f
+    fits = page-in (shape-of (m .given)) i (omega arith)
+
+    -- the seal
+    seal-first : (es : List Item) (n : ℕ) → Goods es → page a f i ≡ image (a .pages) i es (blank ∷ blanks n) → First j f (put (base a i + (2 + length (codes es))) seal) []
+    seal-first es n gs e =
+        let s = put (base a i + (2 + length (codes es))) seal in
+        let o = turns-seal a i es (blanks n) (base a i + (2 + length (codes es))) refl .on f fits e in
+        let c = kind-image at-seal (a .pages) i n es gs in
+        (o .0, mended-only m (given-made (s ∷ []) (m .given)) h (o .1) (rw c) (λ l. c), mend-sealed (apply s f) (rw (o .1 .here) c))
+
+    -- the last entry
+    module _ (fs : List Item) (x : Item) (n : ℕ) (gs : Goods (fs ++ (x ∷ []))) (e : page a f i ≡ image (a .pages) i (fs ++ (x ∷ [])) (blank ∷ blanks n)) where
+      abbrev zs : List Item
+      zs = fs ++ (item 0 (x .words) ∷ [])
+
+      abbrev last : Entry
+      last = entryAt (base a i + 2 + length (codes fs)) x
+
+      short : length (x .words) ≤ 32
+      short = goods-head (goods-right fs gs) .short
+
+      gz : Goods zs
+      gz = goods-append (goods-left fs (x ∷ []) gs) (good-item (dead-good (x .words) short) no-item)
+
+      same-long : length (codes zs) ≡ length (codes (fs ++ (x ∷ [])))
+      same-long = simp (codes-append, length-append)
+
+      bare-first : First j f (bare last) (put (base a i + (2 + length (codes (fs ++ (x ∷ []))))) seal ∷ [])
+      bare-first =
+          let o = turns-bare a i fs x [] (blank ∷ blanks n) (base a i + 2 + length (codes fs)) (omega arith) short .on f fits e in
+          let c = kind-image at-blank (a .pages) i n zs gz in (
+            o .0,
+            mended-only m (given-made (bare last ∷ []) (m .given)) h (o .1) (rw c) (λ l. absurd (omega arith)),
+            mend-torn (apply (bare last) f) zs n gz (o .1 .here) ∙ rw (last-placed fs (item 0 (x .words)), same-long),
+          )
+
+    torn-first : (es : List Item) (n : ℕ) → Goods es → page a f i ≡ image (a .pages) i es (blank ∷ blanks n) → (x : Store) (xs : List Store) → toMend es ≡ x ∷ xs → First j f x xs
+    torn-first es n gs e = go es (snoc-view es) gs e
+      where
+        go : (es : List Item) → Snoc es → Goods es → page a f i ≡ image (a .pages) i es (blank ∷ blanks n) → (x : Store) (xs : List Store) → toMend es ≡ x ∷ xs → First j f x xs
+        go es empty gs e x xs q = rw (← head-eq-of-cons-eq q, ← tail-eq-of-cons-eq q) (seal-first [] n gs e)
+        go es (snoc fs y) gs e x xs q =
+            live (isLive (y .handle)) refl (sym (ap (λ (u : Option Entry). bareIfLive u ++ put (base a i + (2 + length (codes (fs ++ (y ∷ []))))) seal ∷ []) (last-placed fs y)) ∙ q)
+          where
+            live : (b : Bool) → isLive (y .handle) ≡ b
+                → cond (isLive (y .handle)) (bare (last fs y n gs e) ∷ []) [] ++ put (base a i + (2 + length (codes (fs ++ (y ∷ []))))) seal ∷ [] ≡ x ∷ xs → First j f x xs
+            live true c r =
+                let r′ : bare (last fs y n gs e) ∷ (put (base a i + (2 + length (codes (fs ++ (y ∷ []))))) seal ∷ []) ≡ x ∷ xs = rw c at r in
+                rw (← head-eq-of-cons-eq r′, ← tail-eq-of-cons-eq r′) (bare-first fs y n gs e)
+            live false c r =
+                let r′ : put (base a i + (2 + length (codes (fs ++ (y ∷ []))))) seal ∷ [] ≡ x ∷ xs = rw c at r in
+                rw (← head-eq-of-cons-eq r′, ← tail-eq-of-cons-eq r′) (seal-first (fs ++ (y ∷ [])) n gs e)
+
+    mend-first : (k : Kind) → kind a f i ≡ k → (x : Store) (xs : List Store) → mend a i f ≡ x ∷ xs → First j f x xs
+    mend-first sealed e x xs q = absurd (nil≢cons (sym (mend-sealed f e) ∙ q))
+    mend-first torn e x xs q =
+        let w = shape-of (m .given) .wide in
+        let l = length-page a f i fits in
+        let p = torn-shape (a .pages) i (page a f i) (omega arith) e in
+        torn-first (items (page a f i)) (p .0) (goods-items (page a f i)) (p .1) x xs (sym (mend-torn f (items (page a f i)) (p .0) (goods-items (page a f i)) (p .1)) ∙ q)
+    mend-first neither e x xs q = absurd (false≢true (sym (ap isSound e) ∙ m .sound i h))
+
+  mend-peels : Peels (Mended a i) (mend a i)
+  mend-peels = record { first = λ f m x xs q. mend-first i (omega arith) f m (kind a f i) refl x xs q }
+
+  snoc-some : (ss : List Store) (x : Store) → ss ++ (x ∷ []) ≡ [] → ⊥
+  snoc-some [] x e = nil≢cons (sym e)
+  snoc-some (s ∷ ss) x e = nil≢cons (sym e)
+
+  -- where it has nothing to do the page is sealed
+  mend-on : (f : List ℕ) → Mended a i f → mend a i f ≡ [] → Mended a (suc i) f
+  mend-on f m e = record { given = m .given; spare = m .spare; sound = m .sound; done = λ l b c. ⊎-elim (λ q. rw q (here (kind a f i) refl)) (λ q. m .done l b q) (eq-or-lt-of-le (le-of-suc-le-suc c)) }
+    where
+      here : (k : Kind) → kind a f i ≡ k → kind a f i ≡ sealed
+      here sealed q = q
+      here torn q = absurd (snoc-some (bareIfLive (lastOf (pageEntries a f i))) (put (base a i + stop (page a f i)) seal) (rw q at e))
+      here neither q = absurd (false≢true (sym (ap isSound q) ∙ m .sound i h))
+
+  mend-back : (f : List ℕ) → Mended a (suc i) f → Mended a i f × (mend a i f ≡ [])
+  mend-back f m = (record { given = m .given; spare = m .spare; sound = m .sound; done = λ l b c. m .done l b (omega arith) }, mend-sealed f (m .done i h (omega arith)))
+
+-- ---- step (c)
+drop-peels : (a : Area) → Peels (Settled a) (dropDoubles a)
+drop-peels a = record { first = go }
+  where
+    go : (f : List ℕ) → Settled a f → (x : Store) (xs : List Store) → dropDoubles a f ≡ x ∷ xs → Fair (x ∷ []) f × Settled a (apply x f) × (dropDoubles a (apply x f) ≡ xs)
+    go f s x xs q =
+        let w = supersede-first (entries a f) x xs q in
+        let v = invalidate (w .0) (w .1) (w .2) s (w .3) in
+        rw (w .4) (v .fair, v .settled, ap supersede (v .entries) ∙ w .5)
+
+-- ---- both
+abbrev pub mendAll : Area → Step
+mendAll a = each (mend a) (a .pages) 0
+
+module _ (a : Area) where
+  abbrev pub mendAndDrop : Step
+  mendAndDrop = mendAll a then dropDoubles a
+
+  pub later-peels : Peels (Mended a 0) mendAndDrop
+  later-peels =
+      then-peels (each-peels (mend a) (Mended a) (a .pages) (mend-peels a) (λ i f h. mend-on a i h f) (λ i f h. mend-back a i h f) (a .pages) 0 (omega arith)) (drop-peels a)
+      (each-ends (mend a) (Mended a) (a .pages) (mend-peels a) (λ i f h. mend-on a i h f) (λ i f h. mend-back a i h f) (a .pages) 0 (omega arith))
+      (each-rests (mend a) (Mended a) (a .pages) (mend-peels a) (λ i f h. mend-on a i h f) (λ i f h. mend-back a i h f) (a .pages) 0 (omega arith))
+
+  -- with nothing to do the area is ready, and a ready area has nothing to do
+  pub later-ready : (f : List ℕ) → Mended a 0 f → mendAndDrop f ≡ [] → ready a f ≡ true
+  later-ready f m e = go (mendAll a f) refl e
+    where
+      go : (ss : List Store) → mendAll a f ≡ ss → ss ++ dropDoubles a (made ss f) ≡ [] → ready a f ≡ true
+      go [] q c =
+          settled-ready (each-ends (mend a) (Mended a) (a .pages) (mend-peels a) (λ i f h. mend-on a i h f) (λ i f h. mend-back a i h f) (a .pages) 0 (omega arith) f m q)
+          (none-supersede (entries a f) c)
+      go (x ∷ xs) q c = absurd (nil≢cons (sym c))
+
+  pub settled-mends : (f : List ℕ) → Settled a f → Mended a 0 f × (mendAll a f ≡ [])
+  settled-mends f s = each-rests (mend a) (Mended a) (a .pages) (mend-peels a) (λ i f h. mend-on a i h f) (λ i f h. mend-back a i h f) (a .pages) 0 (omega arith) f s

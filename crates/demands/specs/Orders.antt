@@ -1,0 +1,197 @@
+-- Demand 3, from two facts about single requests: requests on handles that all differ, each cut, recovered and asked again any number of
+-- times, leave an area that stands with all changes made; their answers are right; and their order does not matter. The two facts are
+-- parameters, to be supplied. Assumes nothing.
+use mathlib.Core.Path.{_≡_, refl, ap, ap₂, sym, _∙_, fun-ext, subst}
+use mathlib.Core.List.{List, [], _∷_, List·Permᴰ, List·Permᴰ·nil, List·Permᴰ·cons, List·Permᴰ·swap, List·Permᴰ·trans}
+use mathlib.Core.Bool.{Bool, true, false, true≢false, false≢true}
+use mathlib.Core.Option.{none}
+use mathlib.Core.Logic.{_≢_, Ne·symm, ⊎-elim}
+use Prim.Native.Nat.{ℕ, _+_, _≤_, _<_, zero-le}
+use native.Mathlib.Omega.{arith}
+use lib.ListN.{length}
+use lib.Dec.{eqb}
+use borrow.Author.Tests.{eqb-true, ne-eqb, le-leb, lt-leb}
+use Rattle.flash.specs.Stores.{Store, made, madeFirst}
+use Rattle.flash.specs.Laws.{le-or-lt, first-all, first-nil}
+use Rattle.rules.specs.declared.Area.{Area}
+use Rattle.rules.specs.declared.Answer.{Answer}
+use Rattle.rules.specs.declared.Refusal.the-variants.{NotFound}
+use Rattle.rules.specs.Areas.{entries, liveWords, mapOf, ready}
+use Rattle.rules.specs.Refusals.{areaQuota, refuse, list, outcomeOf}
+use Rattle.rules.specs.Lists.{Request, delete, planOf}
+use Rattle.demands.specs.Terms.{Given, Proper, handleIn, dataIn, newWords, Map, changed, changedAll, newWordsAll, wasCut, run, Recovers, Carried, uncut, asked-again, CarriedAll, no-more, and-then, ProperAll, Others, AllDiffer, Fine, FineAll}
+
+-- the area is ready, its map is m, and it has at most n live words
+pub record Stands (a : Area) (m : Map) (n : ℕ) (f : List ℕ) : Type 0 where
+  pub given : Given a f
+  pub ready : ready a f ≡ true
+  pub map : (u : ℕ) → mapOf a f u ≡ m u
+  pub live : liveWords (entries a f) ≤ n
+
+-- what a request is to do on an area that stands: make stores, all of which leave the area with the change made; or refuse, for a
+-- delete of what is not there
+pub data Planned (a : Area) (r : Request) (m : Map) (n : ℕ) (f : List ℕ) : Type 0 where
+  stores : (ss : List Store) → planOf a r f ≡ list ss → Stands a (changed r m) (n + newWords r) (made ss f) → Planned a r m n f
+  absent : planOf a r f ≡ refuse NotFound → r ≡ delete (handleIn r) → m (handleIn r) ≡ none → Planned a r m n f
+
+-- what a cut request leaves after recovery: all as before; or the change made, and asked again the request has nothing to do
+pub data Left (a : Area) (r : Request) (m : Map) (n : ℕ) (g : List ℕ) : Type 0 where
+  before : Stands a m n g → Left a r m n g
+  after : Stands a (changed r m) (n + newWords r) g → planOf a r g ≡ list [] → Left a r m n g
+
+-- ---- changes of maps
+unchanged : (r : Request) (m : Map) (u : ℕ) → u ≢ handleIn r → changed r m u ≡ m u
+unchanged r m u e = rw (ne-eqb u (handleIn r) e)
+
+-- to give none to a handle that has none changes nothing
+changed-none : (r : Request) (m : Map) → dataIn r ≡ none → m (handleIn r) ≡ none → (u : ℕ) → m u ≡ changed r m u
+changed-none r m d e u = go (eqb u (handleIn r)) refl
+  where
+    go : (b : Bool) → eqb u (handleIn r) ≡ b → m u ≡ changed r m u
+    go true q = rw (q, eqb-true u (handleIn r) q, d) e
+    go false q = rw q
+
+-- changes of two handles may change places
+changed-swap : (r q : Request) (m : Map) → handleIn q ≢ handleIn r → (u : ℕ) → changed q (changed r m) u ≡ changed r (changed q m) u
+changed-swap r q m e u = go (eqb u (handleIn q)) (eqb u (handleIn r)) refl refl
+  where
+    go : (b c : Bool) → eqb u (handleIn q) ≡ b → eqb u (handleIn r) ≡ c → changed q (changed r m) u ≡ changed r (changed q m) u
+    go true true x y = absurd (e (sym (eqb-true u (handleIn q) x) ∙ eqb-true u (handleIn r) y))
+    go true false x y = rw (x, y)
+    go false true x y = rw (x, y)
+    go false false x y = rw (x, y)
+
+-- ---- permutations of requests
+perm-others : (h : ℕ) {rs qs : List Request} → List·Permᴰ rs qs → Others h rs → Others h qs
+perm-others h List·Permᴰ·nil o = tt
+perm-others h (List·Permᴰ·cons e p) o = (rw e at (o .0), perm-others h p (o .1))
+perm-others h (List·Permᴰ·swap e d) o = (rw d at (o .1 .0), (rw e at (o .0), o .1 .1))
+perm-others h (List·Permᴰ·trans p q) o = perm-others h q (perm-others h p o)
+
+perm-differ : {rs qs : List Request} → List·Permᴰ rs qs → AllDiffer rs → AllDiffer qs
+perm-differ List·Permᴰ·nil o = tt
+perm-differ (List·Permᴰ·cons {a = a} e p) o = (rw e at (perm-others (handleIn a) p (o .0)), perm-differ p (o .1))
+perm-differ (List·Permᴰ·swap e d) o = ((rw (e, d) at (Ne·symm (o .0 .0)), rw d at (o .1 .0)), (rw e at (o .0 .1), o .1 .1))
+perm-differ (List·Permᴰ·trans p q) o = perm-differ q (perm-differ p o)
+
+perm-proper : {rs qs : List Request} → List·Permᴰ rs qs → ProperAll rs → ProperAll qs
+perm-proper List·Permᴰ·nil o = tt
+perm-proper (List·Permᴰ·cons e p) o = (subst Proper e (o .0), perm-proper p (o .1))
+perm-proper (List·Permᴰ·swap e d) o = (subst Proper d (o .1 .0), (subst Proper e (o .0), o .1 .1))
+perm-proper (List·Permᴰ·trans p q) o = perm-proper q (perm-proper p o)
+
+perm-words : {rs qs : List Request} → List·Permᴰ rs qs → newWordsAll rs ≡ newWordsAll qs
+perm-words List·Permᴰ·nil = refl
+perm-words (List·Permᴰ·cons e p) = ap₂ _+_ (ap newWords e) (perm-words p)
+perm-words (List·Permᴰ·swap e d) =
+    let x = ap newWords e in
+    let y = ap newWords d in
+    omega arith
+perm-words (List·Permᴰ·trans p q) = perm-words p ∙ perm-words q
+
+-- on handles that all differ the order does not matter to the map
+pub all-changes : (rs qs : List Request) → List·Permᴰ rs qs → AllDiffer rs → (m : Map) (u : ℕ) → changedAll rs m u ≡ changedAll qs m u
+all-changes _ _ List·Permᴰ·nil o m u = refl
+all-changes _ _ (List·Permᴰ·cons {a = a} {l₁ = l₁} {l₂ = l₂} e p) o m u =
+    all-changes l₁ l₂ p (o .1) (changed a m) u ∙ ap (λ (r : Request). changedAll l₂ (changed r m) u) e
+all-changes _ _ (List·Permᴰ·swap {a = a} {b = b} {l = l} e d) o m u =
+    ap (λ (k : Map). changedAll l k u) (fun-ext (changed-swap a b m (o .0 .0)))
+    ∙ ap₂ (λ (r q : Request). changedAll l (changed r (changed q m)) u) e d
+all-changes _ _ (List·Permᴰ·trans {l₁ = l₁} {l₂ = l₂} {l₃ = l₃} p q) o m u = all-changes l₁ l₂ p o m u ∙ all-changes l₂ l₃ q (perm-differ p o) m u
+
+-- ---- answers
+-- a list is cut just when it is longer than the power lasts
+uncut-list : (ss : List Store) (k : ℕ) (f : List ℕ) → wasCut (outcomeOf (list ss) k f .answer) ≡ false → length ss ≤ k
+uncut-list ss k f c = ⊎-elim (λ h. h) short (le-or-lt (length ss) k)
+  where
+    short : k < length ss → length ss ≤ k
+    short h = absurd (true≢false (rw (lt-leb (length ss) k h) at c))
+
+cut-list : (ss : List Store) (k : ℕ) (f : List ℕ) → wasCut (outcomeOf (list ss) k f .answer) ≡ true → k < length ss
+cut-list ss k f c = ⊎-elim enough (λ h. h) (le-or-lt (length ss) k)
+  where
+    enough : length ss ≤ k → k < length ss
+    enough h = absurd (false≢true (rw (le-leb (length ss) k h) at c))
+
+-- a request that has nothing to do is never cut
+nothing-done : {a : Area} {r : Request} {f g : List ℕ} {x : Answer} → planOf a r f ≡ list [] → Carried a r f x g → (g ≡ f) × (x ≡ Answer.Done 0)
+nothing-done e (uncut {f} k c) = rw e (first-nil k f, rw (le-leb 0 k zero-le) refl)
+nothing-done e (asked-again {f} k c _ _) = let l : k < 0 = cut-list [] k f (rw e at c) in absurd (let z : ⊥ = omega arith in z)
+
+-- what is right for a changed map was so before, on another handle
+fine-before : (r q : Request) (m : Map) (x : Answer) → handleIn q ≢ handleIn r → Fine (changed r m) q x → Fine m q x
+fine-before r q m (Answer.Done s) o y = y
+fine-before r q m (Answer.Cut s) o y = y
+fine-before r q m (Answer.Refused n) o y = (y .0, y .1, sym (unchanged r m (handleIn q) o) ∙ y .2)
+
+fine-all-before : (r : Request) (m : Map) (qs : List Request) (xs : List Answer) → Others (handleIn r) qs → FineAll (changed r m) qs xs → FineAll m qs xs
+fine-all-before r m [] [] o y = y
+fine-all-before r m [] (x ∷ xs) o y = y
+fine-all-before r m (q ∷ qs) [] o y = y
+fine-all-before r m (q ∷ qs) (x ∷ xs) o y = (fine-before r q m x (o .0) (y .0), fine-all-before r m qs xs (o .1) (y .1))
+
+-- all stores of a list made
+list-stands : (a : Area) (r : Request) (m k : Map) (n l : ℕ) (f : List ℕ) (ss : List Store) → Stands a k n (made ss f) → length ss ≤ l
+    → Stands a k n (outcomeOf (list ss) l f .flash) × Fine m r (outcomeOf (list ss) l f .answer)
+list-stands a r m k n l f ss s h = rw (le-leb (length ss) l h, first-all l ss f h) (s, tt)
+
+-- a delete of what is not there makes its change by doing nothing
+absent-stands : (a : Area) (r : Request) (m : Map) (n : ℕ) (f : List ℕ) → Stands a m n f → r ≡ delete (handleIn r) → m (handleIn r) ≡ none
+    → Stands a (changed r m) (n + newWords r) f
+absent-stands a r m n f s e d =
+    let w = ap newWords e in
+    let l = s .live in
+    record {
+      given = s .given;
+      ready = s .ready;
+      map = λ u. s .map u ∙ changed-none r m (ap dataIn e) d u;
+      live = omega arith;
+    }
+
+module _ (a : Area) (plans : (r : Request) (m : Map) (n : ℕ) (f : List ℕ) → Proper r → Stands a m n f → n + newWords r ≤ areaQuota a
+    → Planned a r m n f) (leaves : (r : Request) (m : Map) (n : ℕ) (f : List ℕ) → Proper r → Stands a m n f → n + newWords r ≤ areaQuota a
+    → (ss : List Store) → planOf a r f ≡ list ss → (k : ℕ) → k < length ss → (g : List ℕ) → Recovers a (madeFirst k ss f) g
+    → Left a r m n g) where
+  -- a request that is not cut makes its change
+  uncut-stands : (r : Request) (m : Map) (n : ℕ) (f : List ℕ) → Stands a m n f → Planned a r m n f → (k : ℕ) → wasCut (run a r k f .answer) ≡ false
+      → Stands a (changed r m) (n + newWords r) (run a r k f .flash) × Fine m r (run a r k f .answer)
+  uncut-stands r m n f s (stores ss e t) k c = rw e (list-stands a r m (changed r m) (n + newWords r) k f ss t (uncut-list ss k f (rw e at c)))
+  uncut-stands r m n f s (absent e d z) k c = rw e (absent-stands a r m n f s d z, (refl, d, z))
+
+  -- a request that is cut, and then recovered
+  cut-leaves : (r : Request) (m : Map) (n : ℕ) (f : List ℕ) → Proper r → Stands a m n f → n + newWords r ≤ areaQuota a → Planned a r m n f
+      → (k : ℕ) → wasCut (run a r k f .answer) ≡ true → (g : List ℕ) → Recovers a (run a r k f .flash) g → Left a r m n g
+  cut-leaves r m n f p s q (stores ss e t) k c g v = leaves r m n f p s q ss e k (cut-list ss k f (rw e at c)) g (rw e at v)
+  cut-leaves r m n f p s q (absent e d z) k c g v = absurd (false≢true (rw e at c))
+
+  -- a request, however often it is cut, recovered and asked again
+  pub carried : (r : Request) (m : Map) (n : ℕ) (f : List ℕ) → Proper r → Stands a m n f → n + newWords r ≤ areaQuota a
+      → (x : Answer) (g : List ℕ) → Carried a r f x g → Stands a (changed r m) (n + newWords r) g × Fine m r x
+  carried r m n f p s q _ _ (uncut k c) = uncut-stands r m n f s (plans r m n f p s q) k c
+  carried r m n f p s q x g (asked-again {g = h} k c v t) =
+      left (cut-leaves r m n f p s q (plans r m n f p s q) k c h v) (λ y. carried r m n h p y q x g t)
+    where
+      left : Left a r m n h → (Stands a m n h → Stands a (changed r m) (n + newWords r) g × Fine m r x)
+          → Stands a (changed r m) (n + newWords r) g × Fine m r x
+      left (before y) again = again y
+      left (after y e) again = let z = nothing-done e t in rw (z .0, z .1) (y, tt)
+
+  -- several requests; an answer is right for the map as it was before all of them
+  pub carried-all : (rs : List Request) (m : Map) (n : ℕ) (f : List ℕ) → ProperAll rs → AllDiffer rs → Stands a m n f
+      → n + newWordsAll rs ≤ areaQuota a → (xs : List Answer) (g : List ℕ) → CarriedAll a rs f xs g
+      → Stands a (changedAll rs m) (n + newWordsAll rs) g × FineAll m rs xs
+  carried-all _ m n f p o s q _ _ no-more = let e : n + 0 ≡ n = omega arith in rw e (s, tt)
+  carried-all _ m n f p o s q _ h (and-then {r = r} {rs = rs} {g = g} {x = x} {xs = xs} c cs) =
+      let e : n + (newWords r + newWordsAll rs) ≡ n + newWords r + newWordsAll rs = omega arith in
+      let y = carried r m n f (p .0) s (omega arith) x g c in
+      let z = carried-all rs (changed r m) (n + newWords r) g (p .1) (o .1) (y .0) (omega arith) xs h cs in
+      rw e (z .0, (y .1, fine-all-before r m rs xs (o .0) (z .1)))
+
+  -- the same requests in two orders, each cut as it may be, leave the same map
+  pub any-order : (rs qs : List Request) → List·Permᴰ rs qs → ProperAll rs → AllDiffer rs → (m : Map) (n : ℕ) (f : List ℕ) → Stands a m n f
+      → n + newWordsAll rs ≤ areaQuota a → (xs ys : List Answer) (g k : List ℕ) → CarriedAll a rs f xs g → CarriedAll a qs f ys k → (u : ℕ)
+      → mapOf a g u ≡ mapOf a k u
+  any-order rs qs t p o m n f s q xs ys g k c d u =
+      carried-all rs m n f p o s q xs g c .0 .map u
+      ∙ all-changes rs qs t o m u
+      ∙ sym (carried-all qs m n f (perm-proper t p) (perm-differ t o) s (rw (perm-words t) at q) ys k d .0 .map u)
