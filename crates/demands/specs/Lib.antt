@@ -5,4 +5,5 @@ pub mod Runs
 pub mod Entries
 pub mod Layout
 pub mod Mending
+pub mod Finishing
 pub mod Orders

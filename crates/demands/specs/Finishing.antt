@@ -1,0 +1,349 @@
+-- Recovery's step (a), and the whole of a recovery: cut anywhere and made anew, it ends in the very same flash, and that is a ready
+-- area. Assumes nothing.
+use mathlib.Core.Path.{_≡_, refl, ap, sym, _∙_, subst}
+use mathlib.Core.Logic.{⊎-elim, _≢_}
+use mathlib.Core.List.{List, [], _∷_, _++_, append-assoc, append-nil}
+use mathlib.Core.Bool.{Bool, true, false, cond, not, _&&_, _||_, true≢false}
+use Prim.Native.Nat.{ℕ, suc, zero, _+_, _-_, _≤_, _<_, zero-le}
+use native.Mathlib.Omega.{arith}
+use lib.ListN.{length, getD, take, drop, length-append, length-take, length-replicate, replicate-append-replicate}
+use lib.Seq.{take-all, take-at, take-append-le, take-append-add}
+use lib.Dec.{eqb, ltb}
+use borrow.Author.Tests.{not-false, eq-eqb, ne-eqb, ltb-true}
+use Rattle.flash.specs.Stores.{blank, Words, none, more, Store, put, apply, made, madeFirst, puts, _then_}
+use Rattle.flash.specs.Laws.{le-or-lt, first-none, first-all, first-nil}
+use Rattle.rules.specs.declared.Area.{Area}
+use Rattle.rules.specs.Words.{meta0, meta1, indexOf, seal}
+use Rattle.rules.specs.Walk.{Item, codes, items, stop, allBlank, sealed, kindOf, isSealed, isSound}
+use Rattle.rules.specs.Areas.{R, base, page, kind, every, Recovery, free, unfinished, committed, damage, recoveryOf, recovery, isDamage, names, entries, twice, damaged, ready}
+use Rattle.rules.specs.Lists.{erase, copyTo, restore, finishAs, finish, dropDoubles, recoverList}
+use Rattle.rules.specs.Laws.{and-left, and-right}
+use Rattle.demands.specs.Terms.{Given, Fair, fair-end, recovered}
+use Rattle.demands.specs.Stages.{made-append, after, after-then, fair-append, Resumes, then-resumes, peels-resumes, peels-ends, peels-fair}
+use Rattle.demands.specs.Pages.{blanks, image, length-image, goods-items, at-seal, kind-image, stop-image, sealed-shape, is-sealed, words-image}
+use Rattle.demands.specs.Runs.{same-or-not, over-blank, take-puts, length-puts, words-take, words-append, words-left, words-page, page-in, length-page, Only, only-self, only-as, only-trans, only-same, Turns, turns-none, turns-as, turns-then, turns-put, turns-fill, turns-wipe, every-true, true-every}
+use Rattle.demands.specs.Entries.{supersede-none}
+use Rattle.demands.specs.Mending.{given-made, shape-of, free-blank, Mended, Settled, mended-free, mended-sound, ready-settled, mendAll, mendAndDrop, later-peels, later-ready, settled-mends}
+
+-- ---- words copied to a blank page
+pub meta-low : (n i : ℕ) → i < n → n ≤ 255 → meta1 n i < blank
+unfolding meta1
+meta-low n i h l = omega arith
+
+module _ (a : Area) (j i : ℕ) (ws : List ℕ) (m : ℕ) (low : meta1 (a .pages) i ≤ blank) (v : Words ws) (size : a .words ≡ 2 + (length ws + m)) where
+  abbrev toCopy : List Store
+  toCopy = puts (base a j + 2) ws
+
+  -- blank words, as far as the first k of the words reach
+  blank-parts : (k : ℕ) → k ≤ length ws → blanks (a .words) ≡ (blank ∷ (blank ∷ [])) ++ (blanks (length (take k ws)) ++ blanks (length ws - k + m))
+  blank-parts k h =
+      let l : length (take k ws) ≡ k = simp length-take (omega arith) in
+      let z : a .words ≡ suc (suc (k + (length ws - k + m))) = omega arith in
+      rw (l, replicate-append-replicate k (length ws - k + m) blank) (ap blanks z)
+
+  filled : (k : ℕ) → k ≤ length ws → Turns a j (puts (base a j + 2) (take k ws)) (blanks (a .words)) (blank ∷ (blank ∷ (take k ws ++ blanks (length ws - k + m))))
+  filled k h = turns-as (blank-parts k h) refl (turns-fill a j (blank ∷ (blank ∷ [])) (take k ws) (blanks (length ws - k + m)) (base a j + 2) refl (words-take k v))
+
+  -- all of them, and word 0
+  headed : Turns a j (toCopy ++ put (base a j) meta0 ∷ []) (blanks (a .words)) (meta0 ∷ (blank ∷ (ws ++ blanks m)))
+  headed =
+      let t : take (length ws) ws ≡ ws = take-all (length ws) ws (omega arith) in
+      let z : length ws - length ws + m ≡ m = omega arith in
+      let f = filled (length ws) (omega arith) in
+      turns-then (rw (t, z) at f) (turns-put a j [] blank (blank ∷ (ws ++ blanks m)) (base a j) meta0 (omega arith) refl)
+
+  -- and word 1
+  pub copied : Turns a j (copyTo a j i ws) (blanks (a .words)) (meta0 ∷ (meta1 (a .pages) i ∷ (ws ++ blanks m)))
+  copied =
+      let t = turns-then headed (turns-put a j (meta0 ∷ []) blank (ws ++ blanks m) (base a j + 1) (meta1 (a .pages) i) refl (over-blank (meta1 (a .pages) i) low)) in
+      rw (append-assoc toCopy (put (base a j) meta0 ∷ []) (put (base a j + 1) (meta1 (a .pages) i) ∷ [])) at t
+
+  -- the first k stores; word 1 is blank before the last
+  pub record Part (k : ℕ) : Type 0 where
+    pub page : List ℕ
+    pub turns : Turns a j (take k (copyTo a j i ws)) (blanks (a .words)) page
+    pub uncommitted : k < length ws + 2 → getD page 1 0 ≡ blank
+
+  pub part : (k : ℕ) → Part k
+  part k = ⊎-elim few (λ l. ⊎-elim (λ q. all q) (λ q. one (omega arith)) (le-or-lt (length ws + 2) k)) (le-or-lt k (length ws))
+    where
+      lp : length toCopy ≡ length ws
+      lp = length-puts (base a j + 2) ws
+
+      few : k ≤ length ws → Part k
+      few h =
+          let t : take k (copyTo a j i ws) ≡ puts (base a j + 2) (take k ws) =
+          take-append-le k toCopy (put (base a j) meta0 ∷ (put (base a j + 1) (meta1 (a .pages) i) ∷ [])) (omega (arith, lp)) ∙ take-puts k (base a j + 2) ws in
+          record { page = blank ∷ (blank ∷ (take k ws ++ blanks (length ws - k + m))); turns = rw t (filled k h); uncommitted = λ q. refl }
+
+      one : k ≡ length ws + 1 → Part k
+      one h =
+          let z : k ≡ length toCopy + 1 = omega (arith, lp) in
+          let t : take k (copyTo a j i ws) ≡ toCopy ++ put (base a j) meta0 ∷ [] =
+          ap (λ (u : ℕ). take u (copyTo a j i ws)) z ∙ take-append-add toCopy (put (base a j) meta0 ∷ (put (base a j + 1) (meta1 (a .pages) i) ∷ [])) 1 in
+          record { page = meta0 ∷ (blank ∷ (ws ++ blanks m)); turns = rw t headed; uncommitted = λ q. refl }
+
+      all : length ws + 2 ≤ k → Part k
+      all h =
+          let l = length-append toCopy (put (base a j) meta0 ∷ (put (base a j + 1) (meta1 (a .pages) i) ∷ [])) in
+          let t : take k (copyTo a j i ws) ≡ copyTo a j i ws = take-all k (copyTo a j i ws) (omega (arith, lp)) in
+          record { page = meta0 ∷ (meta1 (a .pages) i ∷ (ws ++ blanks m)); turns = rw t copied; uncommitted = λ q. absurd (omega arith) }
+
+-- ---- what R is
+pub committed-r : (n i : ℕ) (r : List ℕ) → recoveryOf n r ≡ committed i → (i < n) × (kindOf n i r ≡ sealed)
+unfolding recoveryOf
+committed-r n i r e = go (allBlank r) (eqb (getD r 1 0) blank) (ltb (indexOf (getD r 1 0)) n && isSealed (kindOf n (indexOf (getD r 1 0)) r)) refl e
+  where
+    go : (b c d : Bool) → ltb (indexOf (getD r 1 0)) n && isSealed (kindOf n (indexOf (getD r 1 0)) r) ≡ d
+        → cond b free (cond c unfinished (cond d (committed (indexOf (getD r 1 0))) damage)) ≡ committed i → (i < n) × (kindOf n i r ≡ sealed)
+    go true c d p q = absurd (let z : _≡_ {A = ℕ} 0 1 = cc in omega arith)
+    go false true d p q = absurd (let z : _≡_ {A = ℕ} 0 1 = cc in omega arith)
+    go false false false p q = absurd (let z : _≡_ {A = ℕ} 0 1 = cc in omega arith)
+    go false false true p q =
+        let j = indexOf (getD r 1 0) in
+        let k : indexOf (getD r 1 0) ≡ i = cc in
+        let x = and-left (ltb j n) (isSealed (kindOf n j r)) p in
+        let y = and-right (ltb j n) (isSealed (kindOf n j r)) p in
+        (rw (← k) (ltb-true j n x), rw (← k) (is-sealed (kindOf n j r) y))
+
+-- ---- an undamaged area
+pub record Undamaged (a : Area) (f : List ℕ) : Type 0 where
+  pub given : Given a f
+  pub sound : damaged a f ≡ false
+
+or-false : (s t : Bool) → s || t ≡ false → (s ≡ false) × (t ≡ false)
+or-false true t e = absurd (true≢false e)
+or-false false t e = (refl, e)
+
+undamaged-pages : {a : Area} {f : List ℕ} → Undamaged a f → (i : ℕ) → i < a .pages → names (recovery a f) i || isSound (kind a f i) ≡ true
+unfolding damaged
+undamaged-pages {a} {f} u i h =
+    every-true (λ i. names (recovery a f) i || isSound (kind a f i)) (a .pages) 0
+    (not-false (every (λ i. names (recovery a f) i || isSound (kind a f i)) (a .pages) 0) (or-false (isDamage (recovery a f)) _ (u .sound) .1)) i zero-le (omega arith)
+
+undamaged-by : (a : Area) (f : List ℕ) → isDamage (recovery a f) ≡ false → ((i : ℕ) → i < a .pages → names (recovery a f) i || isSound (kind a f i) ≡ true) → damaged a f ≡ false
+unfolding damaged
+undamaged-by a f d h = rw (d, true-every (λ i. names (recovery a f) i || isSound (kind a f i)) (a .pages) 0 (λ i lo hi. h i (omega arith)))
+
+pub mended-undamaged : {a : Area} {j : ℕ} {f : List ℕ} → Mended a j f → Undamaged a f
+mended-undamaged m = record { given = m .given; sound = mended-sound m }
+
+pub finish-rests : {a : Area} {j : ℕ} {f : List ℕ} → Mended a j f → finish a f ≡ []
+finish-rests m = rw (mended-free m)
+
+-- R made blank, and the pages sound
+blank-mended : {a : Area} {f g : List ℕ} → Given a g → Only a f g (a .pages) (blanks (a .words)) → ((i : ℕ) → i < a .pages → isSound (kind a f i) ≡ true) → Mended a 0 g
+blank-mended v o s = record { given = v; spare = o .here; sound = λ i h. rw (o .there i (λ q. omega arith)) (s i h); done = λ i h l. absurd (omega arith) }
+
+-- step (a) on a flash: its stores are fair, it leaves R blank, and cut anywhere it is made anew to the same end
+record Finished (a : Area) (f : List ℕ) : Type 0 where
+  fair : Fair (finish a f) f
+  ends : Mended a 0 (after (finish a) f)
+  cut : (k : ℕ) → Undamaged a (madeFirst k (finish a f) f) × (after (finish a) (madeFirst k (finish a f) f) ≡ after (finish a) f)
+
+-- what is cut when all is made
+cut-whole : (a : Area) (f : List ℕ) → Mended a 0 (after (finish a) f) → (k : ℕ) → length (finish a f) ≤ k
+    → Undamaged a (madeFirst k (finish a f) f) × (after (finish a) (madeFirst k (finish a f) f) ≡ after (finish a) f)
+cut-whole a f m k h =
+    let e : madeFirst k (finish a f) f ≡ after (finish a) f = first-all k (finish a f) f h in
+    rw e (mended-undamaged m, ap (λ (u : List Store). made u (after (finish a) f)) (finish-rests m))
+
+-- and when nothing is
+cut-none : {a : Area} {f : List ℕ} → Undamaged a f
+    → Undamaged a (madeFirst 0 (finish a f) f) × (after (finish a) (madeFirst 0 (finish a f) f) ≡ after (finish a) f)
+cut-none {a} {f} u = rw (first-none (finish a f) f) (u, refl)
+
+module _ (a : Area) (f : List ℕ) (u : Undamaged a f) where
+  fits : (j : ℕ) → j ≤ a .pages → base a (suc j) ≤ length f
+  fits j h = page-in (shape-of (u .given)) j h
+
+  free-finished : recovery a f ≡ free → Finished a f
+  free-finished e =
+      let b : page a f (a .pages) ≡ blanks (a .words) = free-blank (a .pages) (page a f (a .pages)) e ∙ ap blanks (length-page a f (a .pages) (fits (a .pages) (omega arith))) in
+      let m : Mended a 0 f = blank-mended (u .given) (only-as (only-self a f (a .pages)) b) (λ i h. rw e at (undamaged-pages u i h)) in
+      let r = finish-rests m in
+      let n : Mended a 0 (after (finish a) f) = rw r m in
+      record { fair = rw r fair-end; ends = n; cut = λ k. cut-whole a f n k (rw r zero-le) }
+
+  unfinished-finished : recovery a f ≡ unfinished → Finished a f
+  unfinished-finished e = record { fair = rw l (o .0); ends = n; cut = go }
+    where
+      l : finish a f ≡ erase a (R a) ∷ []
+      l = rw e
+
+      o : Fair (erase a (R a) ∷ []) f × Only a f (made (erase a (R a) ∷ []) f) (R a) (blanks (a .words))
+      o = turns-wipe a (R a) (page a f (R a)) .on f (fits (a .pages) (omega arith)) refl
+
+      n : Mended a 0 (after (finish a) f)
+      n = rw l (blank-mended (given-made (erase a (R a) ∷ []) (u .given)) (o .1) (λ i h. rw e at (undamaged-pages u i h)))
+
+      go : (k : ℕ) → Undamaged a (madeFirst k (finish a f) f) × (after (finish a) (madeFirst k (finish a f) f) ≡ after (finish a) f)
+      go zero = cut-none u
+      go (suc k) = cut-whole a f n (suc k) (rw l (omega arith))
+
+  -- R committed for page i
+  module _ (i : ℕ) (e : recovery a f ≡ committed i) where
+    abbrev r : List ℕ
+    r = page a f (R a)
+
+    below : i < a .pages
+    below = committed-r (a .pages) i r e .0
+
+    shape : (m : ℕ) × (r ≡ image (a .pages) i (items r) (seal ∷ blanks m))
+    shape =
+        let w = shape-of (u .given) .wide in
+        let l = length-page a f (a .pages) (fits (a .pages) (omega arith)) in
+        sealed-shape (a .pages) i r (omega arith) (committed-r (a .pages) i r e .1)
+
+    abbrev ws : List ℕ
+    ws = codes (items r) ++ seal ∷ []
+
+    size : a .words ≡ 2 + (length ws + shape .0)
+    size =
+        let l = sym (length-page a f (a .pages) (fits (a .pages) (omega arith))) ∙ ap length (shape .1) ∙ length-image (a .pages) i (items r) (seal ∷ blanks (shape .0)) in
+        let b = length-replicate (shape .0) blank in
+        let c = length-append (codes (items r)) (seal ∷ []) in
+        omega arith
+
+    words-r : Words ws
+    words-r =
+        let v = words-image (a .pages) i (items r) (seal ∷ blanks (shape .0)) (subst Words (shape .1) (words-page a f (R a) (u .given .words))) in
+        words-append (words-left (codes (items r)) (seal ∷ blanks (shape .0)) v) (more (omega arith) none)
+
+    low : meta1 (a .pages) i ≤ blank
+    low = let l = meta-low (a .pages) i below (shape-of (u .given) .many) in omega arith
+
+    -- R's words from word 2 up to and with the seal
+    held : take (stop r - 1) (drop 2 r) ≡ ws
+    unfolding image
+    held =
+        let st = ap stop (shape .1) ∙ stop-image at-seal (a .pages) i (shape .0) (items r) (goods-items r) in
+        let c = length-append (codes (items r)) (seal ∷ []) in
+        ap (λ (x : List ℕ). take (stop r - 1) (drop 2 x)) (shape .1)
+        ∙ ap (λ (x : List ℕ). take (stop r - 1) x) (sym (append-assoc (codes (items r)) (seal ∷ []) (blanks (shape .0))))
+        ∙ take-at ws (blanks (shape .0)) (stop r - 1) (omega arith)
+
+    abbrev back : List Store
+    back = erase a i ∷ copyTo a i i ws
+
+    list-is : finish a f ≡ back ++ erase a (R a) ∷ []
+    list-is = rw (e, held)
+
+    abbrev full : List ℕ
+    full = meta0 ∷ (meta1 (a .pages) i ∷ (ws ++ blanks (shape .0)))
+
+    full-r : full ≡ r
+    unfolding image
+    full-r = ap (λ (x : List ℕ). meta0 ∷ (meta1 (a .pages) i ∷ x)) (append-assoc (codes (items r)) (seal ∷ []) (blanks (shape .0))) ∙ sym (shape .1)
+
+    turned : Turns a i back (page a f i) r
+    turned = turns-as refl full-r (turns-then (turns-wipe a i (page a f i)) (copied a i i ws (shape .0) low words-r size))
+
+    -- any part of it
+    partly : (k : ℕ) → (y : List ℕ) × Turns a i (take k back) (page a f i) y
+    partly zero = (page a f i, turns-none a i (page a f i))
+    partly (suc k) = let p = part a i i ws (shape .0) low words-r size k in (p .page, turns-then (turns-wipe a i (page a f i)) (p .turns))
+
+    -- a flash that differs in page i alone: as undamaged, and finished to the same end
+    module _ (g : List ℕ) (v : Given a g) (y : List ℕ) (o : Only a f g i y) where
+      same-r : page a g (R a) ≡ r
+      same-r = let h = below in o .there (R a) (λ q. omega arith)
+
+      g-undamaged : Undamaged a g
+      g-undamaged = record { given = v; sound = undamaged-by a g (rw (same-r, e)) pages }
+        where
+          pages : (l : ℕ) → l < a .pages → names (recovery a g) l || isSound (kind a g l) ≡ true
+          pages l h = rw (same-r, e) (⊎-elim (λ q. rw (eq-eqb l i (sym q))) (λ n. rw (o .there l n) (rw e at (undamaged-pages u l h))) (same-or-not i l))
+
+      g-list : finish a g ≡ finish a f
+      g-list = let c : recovery a g ≡ committed i = rw same-r e in rw (c, e, same-r)
+
+      erased : apply (erase a i) g ≡ apply (erase a i) f
+      erased =
+          let h = below in
+          let l = fits i (omega arith) in
+          let p = turns-wipe a i (page a f i) .on f l refl .1 in
+          let q = turns-wipe a i (page a g i) .on g (rw (o .long) l) refl .1 in
+          only-same (shape-of (u .given)) (only-trans o q) p
+
+      g-again : after (finish a) g ≡ after (finish a) f
+      g-again =
+          ap (λ (x : List Store). made x g) (g-list ∙ list-is)
+          ∙ ap (λ (x : List ℕ). made (copyTo a i i ws ++ erase a (R a) ∷ []) x) erased
+          ∙ ap (λ (x : List Store). made x f) (sym list-is)
+
+    committed-finished : Finished a f
+    unfolding madeFirst
+    committed-finished = record { fair = rw list-is (fair-append (first .0) (second .0)); ends = ends; cut = cut }
+      where
+        g : List ℕ
+        g = made back f
+
+        first : Fair back f × Only a f g i r
+        first = let h = below in turned .on f (fits i (omega arith)) refl
+
+        second : Fair (erase a (R a) ∷ []) g × Only a g (apply (erase a (R a)) g) (R a) (blanks (a .words))
+        second = turns-wipe a (R a) (page a g (R a)) .on g (rw (first .1 .long) (fits (a .pages) (omega arith))) refl
+
+        sound : (l : ℕ) → l < a .pages → isSound (kind a g l) ≡ true
+        sound l h =
+            ⊎-elim (λ q. subst (λ (x : ℕ). isSound (kind a g x) ≡ true) q (rw (first .1 .here, committed-r (a .pages) i r e .1)))
+            (λ n. rw (first .1 .there l n) (other n (rw e at (undamaged-pages u l h)))) (same-or-not i l)
+          where
+            other : i ≢ l → eqb l i || isSound (kind a f l) ≡ true → isSound (kind a f l) ≡ true
+            other n q = let z = ne-eqb l i (λ c. n (sym c)) in rw z at q
+
+        ends : Mended a 0 (after (finish a) f)
+        ends =
+            let v = given-made (finish a f) (u .given) in
+            let q : after (finish a) f ≡ apply (erase a (R a)) g = ap (λ (x : List Store). made x f) list-is ∙ made-append back (erase a (R a) ∷ []) f in
+            rw q (blank-mended (rw q at v) (second .1) sound)
+
+        cut : (k : ℕ) → Undamaged a (madeFirst k (finish a f) f) × (after (finish a) (madeFirst k (finish a f) f) ≡ after (finish a) f)
+        cut k = ⊎-elim some (λ (q : length back < k). cut-whole a f ends k (rw (list-is, length-append back (erase a (R a) ∷ [])) (omega arith))) (le-or-lt k (length back))
+          where
+            some : k ≤ length back → Undamaged a (madeFirst k (finish a f) f) × (after (finish a) (madeFirst k (finish a f) f) ≡ after (finish a) f)
+            some q =
+                let h = below in
+                let p = partly k in
+                let o = p .1 .on f (fits i (omega arith)) refl .1 in
+                let t : madeFirst k (finish a f) f ≡ made (take k back) f = ap (λ (x : List Store). made (take k x) f) list-is ∙ ap (λ (x : List Store). made x f) (take-append-le k back (erase a (R a) ∷ []) q) in
+                let v = given-made (take k back) (u .given) in
+                rw t (g-undamaged (made (take k back) f) v (p .0) o, g-again (made (take k back) f) v (p .0) o)
+
+  finished : Finished a f
+  unfolding damaged
+  finished = go (recovery a f) refl
+    where
+      go : (s : Recovery) → recovery a f ≡ s → Finished a f
+      go free e = free-finished e
+      go unfinished e = unfinished-finished e
+      go (committed i) e = committed-finished i e
+      go damage e = absurd (true≢false (rw e at (u .sound)))
+
+-- ---- the whole
+module _ (a : Area) where
+  pub finish-resumes : Resumes (Undamaged a) (finish a)
+  finish-resumes = record { keeps = λ f u k. finished a f u .cut k .0; again = λ f u k. finished a f u .cut k .1 }
+
+  pub recover-resumes : Resumes (Undamaged a) (recoverList a)
+  recover-resumes = then-resumes finish-resumes (peels-resumes (later-peels a)) (λ f u. finished a f u .ends) (λ f m. mended-undamaged m) (λ f m. finish-rests m)
+
+  pub recover-fair : (f : List ℕ) → Undamaged a f → Fair (recoverList a f) f
+  recover-fair f u = fair-append (finished a f u .fair) (peels-fair (later-peels a) (after (finish a) f) (finished a f u .ends))
+
+  pub recover-ready : (f : List ℕ) → Undamaged a f → ready a (recovered a f) ≡ true
+  recover-ready f u =
+      let g = after (finish a) f in
+      let p = peels-ends (later-peels a) (after (finish a) f) (finished a f u .ends) in
+      rw (after-then (finish a) (mendAndDrop a) f) (later-ready a (after (mendAndDrop a) g) (p .0) (p .1))
+
+  -- what is left to do where R is blank
+  pub recover-mended : {j : ℕ} (f : List ℕ) → Mended a j f → recoverList a f ≡ mendAndDrop a f
+  recover-mended f m = rw (finish-rests m)
+
+  pub recover-settled : (f : List ℕ) → Settled a f → recoverList a f ≡ dropDoubles a f
+  recover-settled f s = recover-mended f s ∙ rw (settled-mends a f s .1)
+
+  pub ready-rests : (f : List ℕ) → Given a f → ready a f ≡ true → recoverList a f ≡ []
+  ready-rests f g e = let p = ready-settled g e in recover-settled f (p .0) ∙ supersede-none (entries a f) (p .1)
