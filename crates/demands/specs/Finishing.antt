@@ -135,6 +135,13 @@ finish-rests m = rw (mended-free m)
 blank-mended : {a : Area} {f g : List ℕ} → Given a g → Only a f g (a .pages) (blanks (a .words)) → ((i : ℕ) → i < a .pages → isSound (kind a f i) ≡ true) → Mended a 0 g
 blank-mended v o s = record { given = v; spare = o .here; sound = λ i h. rw (o .there i (λ q. omega arith)) (s i h); done = λ i h l. absurd (omega arith) }
 
+-- page i has become what R was, R is blank, and the rest is as it was
+pub record Restored (a : Area) (f : List ℕ) (i : ℕ) (g : List ℕ) : Type 0 where
+  pub long : length g ≡ length f
+  pub here : page a g i ≡ page a f (R a)
+  pub spare : page a g (R a) ≡ blanks (a .words)
+  pub there : (j : ℕ) → i ≢ j → R a ≢ j → page a g j ≡ page a f j
+
 -- step (a) on a flash: its stores are fair, it leaves R blank, and cut anywhere it is made anew to the same end
 record Finished (a : Area) (f : List ℕ) : Type 0 where
   fair : Fair (finish a f) f
@@ -272,22 +279,36 @@ module _ (a : Area) (f : List ℕ) (u : Undamaged a f) where
           ∙ ap (λ (x : List ℕ). made (copyTo a i i ws ++ erase a (R a) ∷ []) x) erased
           ∙ ap (λ (x : List Store). made x f) (sym list-is)
 
+    -- the copy, and R erased
+    abbrev copy : List ℕ
+    copy = made back f
+
+    first : Fair back f × Only a f copy i r
+    first = let h = below in turned .on f (fits i (omega arith)) refl
+
+    second : Fair (erase a (R a) ∷ []) copy × Only a copy (apply (erase a (R a)) copy) (R a) (blanks (a .words))
+    second = turns-wipe a (R a) (page a copy (R a)) .on copy (rw (first .1 .long) (fits (a .pages) (omega arith))) refl
+
+    whole : after (finish a) f ≡ apply (erase a (R a)) copy
+    whole = ap (λ (x : List Store). made x f) list-is ∙ made-append back (erase a (R a) ∷ []) f
+
+    pub restored : Restored a f i (after (finish a) f)
+    restored =
+        let h = below in
+        rw whole (record {
+          long = second .1 .long ∙ first .1 .long;
+          here = second .1 .there i (λ q. omega arith) ∙ first .1 .here;
+          spare = second .1 .here;
+          there = λ j n q. second .1 .there j q ∙ first .1 .there j n;
+        })
+
     committed-finished : Finished a f
     unfolding madeFirst
     committed-finished = record { fair = rw list-is (fair-append (first .0) (second .0)); ends = ends; cut = cut }
       where
-        g : List ℕ
-        g = made back f
-
-        first : Fair back f × Only a f g i r
-        first = let h = below in turned .on f (fits i (omega arith)) refl
-
-        second : Fair (erase a (R a) ∷ []) g × Only a g (apply (erase a (R a)) g) (R a) (blanks (a .words))
-        second = turns-wipe a (R a) (page a g (R a)) .on g (rw (first .1 .long) (fits (a .pages) (omega arith))) refl
-
-        sound : (l : ℕ) → l < a .pages → isSound (kind a g l) ≡ true
+        sound : (l : ℕ) → l < a .pages → isSound (kind a copy l) ≡ true
         sound l h =
-            ⊎-elim (λ q. subst (λ (x : ℕ). isSound (kind a g x) ≡ true) q (rw (first .1 .here, committed-r (a .pages) i r e .1)))
+            ⊎-elim (λ q. subst (λ (x : ℕ). isSound (kind a copy x) ≡ true) q (rw (first .1 .here, committed-r (a .pages) i r e .1)))
             (λ n. rw (first .1 .there l n) (other n (rw e at (undamaged-pages u l h)))) (same-or-not i l)
           where
             other : i ≢ l → eqb l i || isSound (kind a f l) ≡ true → isSound (kind a f l) ≡ true
@@ -296,8 +317,7 @@ module _ (a : Area) (f : List ℕ) (u : Undamaged a f) where
         ends : Mended a 0 (after (finish a) f)
         ends =
             let v = given-made (finish a f) (u .given) in
-            let q : after (finish a) f ≡ apply (erase a (R a)) g = ap (λ (x : List Store). made x f) list-is ∙ made-append back (erase a (R a) ∷ []) f in
-            rw q (blank-mended (rw q at v) (second .1) sound)
+            rw whole (blank-mended (rw whole at v) (second .1) sound)
 
         cut : (k : ℕ) → Undamaged a (madeFirst k (finish a f) f) × (after (finish a) (madeFirst k (finish a f) f) ≡ after (finish a) f)
         cut k = ⊎-elim some (λ (q : length back < k). cut-whole a f ends k (rw (list-is, length-append back (erase a (R a) ∷ [])) (omega arith))) (le-or-lt k (length back))
@@ -326,11 +346,14 @@ module _ (a : Area) where
   pub finish-resumes : Resumes (Undamaged a) (finish a)
   finish-resumes = record { keeps = λ f u k. finished a f u .cut k .0; again = λ f u k. finished a f u .cut k .1 }
 
+  pub finish-fair : (f : List ℕ) → Undamaged a f → Fair (finish a f) f
+  finish-fair f u = finished a f u .fair
+
   pub recover-resumes : Resumes (Undamaged a) (recoverList a)
   recover-resumes = then-resumes finish-resumes (peels-resumes (later-peels a)) (λ f u. finished a f u .ends) (λ f m. mended-undamaged m) (λ f m. finish-rests m)
 
   pub recover-fair : (f : List ℕ) → Undamaged a f → Fair (recoverList a f) f
-  recover-fair f u = fair-append (finished a f u .fair) (peels-fair (later-peels a) (after (finish a) f) (finished a f u .ends))
+  recover-fair f u = fair-append (finish-fair f u) (peels-fair (later-peels a) (after (finish a) f) (finished a f u .ends))
 
   pub recover-ready : (f : List ℕ) → Undamaged a f → ready a (recovered a f) ≡ true
   recover-ready f u =

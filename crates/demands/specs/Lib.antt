@@ -1,9 +1,11 @@
 pub mod Terms
-pub mod Pages
 pub mod Stages
+pub mod Pages
 pub mod Runs
 pub mod Entries
 pub mod Layout
 pub mod Mending
 pub mod Finishing
+pub mod Format
+pub mod Room
 pub mod Orders

@@ -17,14 +17,14 @@ use Rattle.flash.specs.Laws.{words-made, length-made}
 use Rattle.rules.specs.declared.Area.{Area}
 use Rattle.rules.specs.Words.{meta1, indexOf, header, special, isLive, seal}
 use Rattle.rules.specs.Walk.{Item, entryLength, codes, items, stop, allBlank, Kind, sealed, torn, neither, kindOf, isSealed, isSound}
-use Rattle.rules.specs.Areas.{R, base, page, kind, every, Recovery, free, unfinished, committed, damage, recoveryOf, recovery, isFree, names, Entry, placed, pageEntries, entries, twice, damaged, ready}
+use Rattle.rules.specs.Areas.{R, base, page, kind, every, Recovery, free, unfinished, committed, damage, recoveryOf, recovery, isFree, names, Entry, placed, pageEntries, entries, twice, damaged, ready, mapOf, liveWords}
 use Rattle.rules.specs.Lists.{bare, lastOf, bareIfLive, mend, supersede, dropDoubles}
 use Rattle.rules.specs.Laws.{and-left, and-right}
-use Rattle.demands.specs.Terms.{Given, Fair}
-use Rattle.demands.specs.Stages.{after, Peels, then-peels, each-peels, each-ends, each-rests}
+use Rattle.demands.specs.Terms.{Given, Fair, Map}
+use Rattle.demands.specs.Stages.{after, Peels, then-peels, each-peels, each-ends, each-rests, each-one}
 use Rattle.demands.specs.Pages.{blanks, item, image, Good, Goods, no-item, good-item, goods-append, goods-left, goods-right, goods-head, goods-items, bare-header, header-dead, at-seal, at-blank, blank-all, all-blank, items-image, kind-image, stop-image, sealed-shape, torn-shape, is-sealed, codes-append, front, length-front, image-front, image-at}
 use Rattle.demands.specs.Runs.{same-or-not, Right, right, right-wrong, page-in, length-page, Only, Turns, turns-as, turns-put, every-true, true-every}
-use Rattle.demands.specs.Entries.{zeroed, none-supersede, supersede-first}
+use Rattle.demands.specs.Entries.{zeroed, look, none-supersede, supersede-first}
 use Rattle.demands.specs.Layout.{entryAt, placed-append, Located, located}
 
 pub given-made : {a : Area} {f : List ℕ} (ss : List Store) → Given a f → Given a (made ss f)
@@ -94,6 +94,25 @@ ready-settled {a} {f} g e =
       },
       not-true (twice (entries a f)) (and-right (every (λ i. isSealed (kind a f i)) (a .pages) 0) _ p),
     )
+
+-- the area is ready, its map is m, and it has at most n live words
+pub record Stands (a : Area) (m : Map) (n : ℕ) (f : List ℕ) : Type 0 where
+  pub given : Given a f
+  pub ready : ready a f ≡ true
+  pub map : (u : ℕ) → mapOf a f u ≡ m u
+  pub live : liveWords (entries a f) ≤ n
+
+pub stands-by : {a : Area} {m : Map} {n : ℕ} {f : List ℕ} (es : List Entry) → Settled a f → entries a f ≡ es → twice es ≡ false → ((u : ℕ) → look u es ≡ m u)
+    → liveWords es ≤ n → Stands a m n f
+unfolding mapOf
+stands-by es s e t q l = record { given = s .given; ready = settled-ready s (rw e t); map = λ u. rw e (q u); live = rw e l }
+
+pub stands-settled : {a : Area} {m : Map} {n : ℕ} {f : List ℕ} → Stands a m n f → Settled a f × (twice (entries a f) ≡ false)
+stands-settled s = ready-settled (s .given) (s .ready)
+
+pub stands-look : {a : Area} {m : Map} {n : ℕ} {f : List ℕ} → Stands a m n f → (u : ℕ) → look u (entries a f) ≡ m u
+unfolding mapOf
+stands-look s u = s .map u
 
 -- one page turned to another
 pub mended-only : {a : Area} {j : ℕ} {f g : List ℕ} {i : ℕ} {x : List ℕ} → Mended a j f → Given a g → i < a .pages → Only a f g i x
@@ -320,6 +339,13 @@ module _ (a : Area) where
           settled-ready (each-ends (mend a) (Mended a) (a .pages) (mend-peels a) (λ i f h. mend-on a i h f) (λ i f h. mend-back a i h f) (a .pages) 0 (omega arith) f m q)
           (none-supersede (entries a f) c)
       go (x ∷ xs) q c = absurd (nil≢cons (sym c))
+
+  -- one page torn, and mended
+  pub mend-one : (i : ℕ) (f : List ℕ) (x : List ℕ) → i < a .pages → ((l : ℕ) → l < a .pages → i ≢ l → kind a f l ≡ sealed) → Only a f (after (mend a i) f) i x
+      → mendAll a f ≡ mend a i f
+  mend-one i f x h s o =
+      each-one (mend a) i (a .pages) 0 f zero-le (omega arith) (λ l b n. mend-sealed a l (omega arith) f (s l (omega arith) n))
+      (λ l b n. mend-sealed a l (omega arith) (after (mend a i) f) (rw (o .there l n) (s l (omega arith) n)))
 
   pub settled-mends : (f : List ℕ) → Settled a f → Mended a 0 f × (mendAll a f ≡ [])
   settled-mends f s = each-rests (mend a) (Mended a) (a .pages) (mend-peels a) (λ i f h. mend-on a i h f) (λ i f h. mend-back a i h f) (a .pages) 0 (omega arith) f s

@@ -16,17 +16,11 @@ use Rattle.flash.specs.Laws.{le-or-lt, first-all, first-nil}
 use Rattle.rules.specs.declared.Area.{Area}
 use Rattle.rules.specs.declared.Answer.{Answer}
 use Rattle.rules.specs.declared.Refusal.the-variants.{NotFound}
-use Rattle.rules.specs.Areas.{entries, liveWords, mapOf, ready}
+use Rattle.rules.specs.Areas.{mapOf}
 use Rattle.rules.specs.Refusals.{areaQuota, refuse, list, outcomeOf}
 use Rattle.rules.specs.Lists.{Request, delete, planOf}
-use Rattle.demands.specs.Terms.{Given, Proper, handleIn, dataIn, newWords, Map, changed, changedAll, newWordsAll, wasCut, run, Recovers, Carried, uncut, asked-again, CarriedAll, no-more, and-then, ProperAll, Others, AllDiffer, Fine, FineAll}
-
--- the area is ready, its map is m, and it has at most n live words
-pub record Stands (a : Area) (m : Map) (n : ℕ) (f : List ℕ) : Type 0 where
-  pub given : Given a f
-  pub ready : ready a f ≡ true
-  pub map : (u : ℕ) → mapOf a f u ≡ m u
-  pub live : liveWords (entries a f) ≤ n
+use Rattle.demands.specs.Terms.{Proper, handleIn, dataIn, newWords, Map, changed, changedAll, newWordsAll, wasCut, run, Recovers, Carried, uncut, asked-again, CarriedAll, no-more, and-then, ProperAll, Others, AllDiffer, Fine, FineAll}
+use Rattle.demands.specs.Mending.{Stands}
 
 -- what a request is to do on an area that stands: make stores, all of which leave the area with the change made; or refuse, for a
 -- delete of what is not there

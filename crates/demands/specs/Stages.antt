@@ -1,10 +1,11 @@
 -- Steps that are cut and taken up again: what a step must be so that made anew it ends where it would have ended, how such steps
 -- compose, and the steps that simply go on with what is left. Assumes nothing.
 use mathlib.Core.Path.{_≡_, refl, ap, sym, _∙_, subst}
-use mathlib.Core.List.{List, [], _∷_, _++_, nil≢cons, head-eq-of-cons-eq, tail-eq-of-cons-eq}
-use mathlib.Core.Logic.{⊎-elim}
+use mathlib.Core.List.{List, [], _∷_, _++_, append-nil, nil≢cons, head-eq-of-cons-eq, tail-eq-of-cons-eq}
+use mathlib.Core.Logic.{⊎-elim, _≢_}
 use Prim.Native.Nat.{ℕ, suc, zero, _+_, _-_, _≤_, _<_}
 use native.Mathlib.Omega.{arith}
+use native.Mathlib.Nat.{eq-or-lt-of-le}
 use lib.ListN.{length, take, drop, take-append-drop}
 use lib.Seq.{take-nil, take-length, drop-length}
 use Rattle.flash.specs.Stores.{Store, put, wipe, apply, made, madeFirst, Step, _then_, each}
@@ -148,3 +149,18 @@ module _ (t : ℕ → Step) (I : ℕ → List ℕ → Type 0) (top : ℕ) (one :
       let r = each-rests n (suc i) (omega arith) f j in
       let b = back i f (omega arith) (r .0) in
       (b .0, ap (λ (u : List Store). u ++ each t n (suc i) (made u f)) (b .1) ∙ r .1)
+
+-- steps with nothing to do, and all but one with nothing to do
+pub each-none : (t : ℕ → Step) (n j : ℕ) (f : List ℕ) → ((l : ℕ) → j ≤ l → l < j + n → t l f ≡ []) → each t n j f ≡ []
+each-none t zero j f h = refl
+each-none t (suc n) j f h = rw (h j (omega arith) (omega arith)) (each-none t n (suc j) f (λ l lo hi. h l (omega arith) (omega arith)))
+
+pub each-one : (t : ℕ → Step) (i n j : ℕ) (f : List ℕ) → j ≤ i → i < j + n → ((l : ℕ) → l < j + n → i ≢ l → t l f ≡ [])
+    → ((l : ℕ) → l < j + n → i ≢ l → t l (after (t i) f) ≡ []) → each t n j f ≡ t i f
+each-one t i zero j f lo hi h k = absurd (omega arith)
+each-one t i (suc n) j f lo hi h k =
+    ⊎-elim here (λ (q : j < i). rw (h j (omega arith) (λ c. omega arith)) (each-one t i n (suc j) f q (omega arith) (λ l b c. h l (omega arith) c) (λ l b c. k l (omega arith) c))) (eq-or-lt-of-le lo)
+  where
+    here : j ≡ i → each t (suc n) j f ≡ t i f
+    here q =
+        rw q (ap (λ (u : List Store). t i f ++ u) (each-none t n (suc i) (after (t i) f) (λ l a b. k l (omega arith) (λ c. omega arith))) ∙ append-nil (t i f))

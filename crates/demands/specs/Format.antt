@@ -1,0 +1,111 @@
+-- Format: its stores are fair, one and four more for each page, and on whatever flash they leave a ready area without entries.
+-- Assumes nothing.
+use mathlib.Core.Path.{_≡_, refl, ap, _∙_, subst}
+use mathlib.Core.Logic.{⊎-elim}
+use mathlib.Core.List.{List, [], _∷_}
+use mathlib.Core.Bool.{true}
+use Prim.Native.Nat.{ℕ, suc, zero, _+_, _-_, _*_, _≤_, _<_, zero-le}
+use native.Mathlib.Omega.{arith}
+use native.Mathlib.Nat.{eq-or-lt-of-le}
+use lib.ListN.{length}
+use Rattle.flash.specs.Stores.{blank, none, more, made, each}
+use Rattle.rules.specs.declared.Area.{Area}
+use Rattle.rules.specs.Words.{meta0, meta1, seal}
+use Rattle.rules.specs.Walk.{items, sealed}
+use Rattle.rules.specs.Areas.{R, base, page, kind, entriesFrom, entries, ready}
+use Rattle.rules.specs.Lists.{eraseR, formatPage, formatList}
+use Rattle.demands.specs.Terms.{Given, Fair, fair-end}
+use Rattle.demands.specs.Stages.{fair-append}
+use Rattle.demands.specs.Pages.{blanks, image, no-item, at-seal, items-image, kind-image}
+use Rattle.demands.specs.Runs.{Right, right-at, page-in, Turns, turns-as, turns-then, turns-fill, turns-wipe}
+use Rattle.demands.specs.Mending.{given-made, shape-of, Settled, settled-ready}
+
+-- ---- one page
+-- the page with the index i as format leaves it
+abbrev fresh : Area → ℕ → List ℕ
+fresh a i = image (a .pages) i [] (seal ∷ blanks (a .words - 3))
+
+meta1-word : (n i : ℕ) → i < n → n ≤ 255 → meta1 n i ≤ blank
+unfolding meta1
+meta1-word n i h m = omega arith
+
+turns-format : {a : Area} {f : List ℕ} → Right a f → (i : ℕ) → i < a .pages → (x : List ℕ) → Turns a i (formatPage a i f) x (fresh a i)
+unfolding image
+turns-format {a} r i h x =
+    let w = r .wide in
+    let p : a .words ≡ suc (suc (suc (a .words - 3))) = omega arith in
+    let one : base a i + 1 ≡ suc (base a i) = omega arith in
+    let two : base a i + 2 ≡ suc (suc (base a i)) = omega arith in
+    let m = meta1-word (a .pages) i h (r .many) in
+    rw (one, two)
+    (turns-then (turns-as refl (ap blanks p) (turns-wipe a i x))
+    (turns-fill a i [] (meta0 ∷ (meta1 (a .pages) i ∷ (seal ∷ []))) (blanks (a .words - 3)) (base a i) (omega arith) (more (omega arith) (more m (more (omega arith) none)))))
+
+-- ---- the pages one after the other
+-- format's stores for n pages from the index j on are fair on g, leave these pages fresh, and the others as they were
+record Formats (a : Area) (n j : ℕ) (g : List ℕ) : Type 0 where
+  fair : Fair (each (formatPage a) n j g) g
+  here : (i : ℕ) → j ≤ i → i < j + n → page a (made (each (formatPage a) n j g) g) i ≡ fresh a i
+  there : (i : ℕ) → (j ≤ i → i < j + n → ⊥) → page a (made (each (formatPage a) n j g) g) i ≡ page a g i
+
+formats : {a : Area} (n j : ℕ) {g : List ℕ} → Right a g → j + n ≤ a .pages → Formats a n j g
+formats zero j r b = record { fair = fair-end; here = λ i lo hi. absurd (omega arith); there = λ i no. refl }
+formats {a} (suc n) j {g} r b =
+    let k = made (formatPage a j g) g in
+    let o = turns-format r j (omega arith) (page a g j) .on g (page-in r j (omega arith)) refl in
+    let w = formats n (suc j) (right-at k r (o .1 .long)) (omega arith) in
+    record {
+      fair = fair-append (o .0) (w .fair);
+      here = λ i lo hi. ⊎-elim
+          (λ q. subst (λ (u : ℕ). page a (made (each (formatPage a) n (suc j) k) k) u ≡ fresh a u) q (w .there j (λ l m. omega arith) ∙ o .1 .here))
+          (λ l. w .here i l (omega arith)) (eq-or-lt-of-le lo);
+      there = λ i no. w .there i (λ l m. no (omega arith) (omega arith)) ∙ o .1 .there i (λ q. no (omega arith) (omega arith));
+    }
+
+-- ---- all of it
+-- its stores are fair on f, leave every page fresh, and R blank
+record Whole (a : Area) (f : List ℕ) : Type 0 where
+  fair : Fair (formatList a f) f
+  here : (i : ℕ) → i < a .pages → page a (made (formatList a f) f) i ≡ fresh a i
+  spare : page a (made (formatList a f) f) (R a) ≡ blanks (a .words)
+
+whole : {a : Area} {f : List ℕ} → Given a f → Whole a f
+whole {a} {f} g =
+    let r = shape-of g in
+    let o = turns-wipe a (R a) (page a f (R a)) .on f (page-in r (R a) (omega arith)) refl in
+    let w = formats (a .pages) 0 (right-at (made (eraseR a f) f) r (o .1 .long)) (omega arith) in
+    record {
+      fair = fair-append (o .0) (w .fair);
+      here = λ i h. w .here i zero-le (omega arith);
+      spare = w .there (R a) (λ lo hi. omega arith) ∙ o .1 .here;
+    }
+
+pub format-fair : {a : Area} {f : List ℕ} → Given a f → Fair (formatList a f) f
+format-fair g = whole g .fair
+
+pub format-settled : {a : Area} {f : List ℕ} → Given a f → Settled a (made (formatList a f) f)
+format-settled {a} {f} g =
+    let w = whole g in
+    let s : (i : ℕ) → i < a .pages → kind a (made (formatList a f) f) i ≡ sealed = λ i h. rw (w .here i h) (kind-image at-seal (a .pages) i (a .words - 3) [] no-item) in
+    record { given = given-made (formatList a f) g; spare = w .spare; sound = λ i h. rw (s i h); done = λ i h l. s i h }
+
+no-entries : (a : Area) (f : List ℕ) (n j : ℕ) → ((i : ℕ) → j ≤ i → i < j + n → items (page a f i) ≡ []) → entriesFrom a f n j ≡ []
+no-entries a f zero j h = refl
+no-entries a f (suc n) j h = rw (h j (omega arith) (omega arith)) (no-entries a f n (suc j) (λ i lo hi. h i (omega arith) (omega arith)))
+
+pub format-empty : {a : Area} {f : List ℕ} → Given a f → entries a (made (formatList a f) f) ≡ []
+unfolding entries
+format-empty {a} {f} g =
+    no-entries a (made (formatList a f) f) (a .pages) 0
+    (λ i lo hi. rw (whole g .here i (omega arith)) (items-image at-seal (a .pages) i (a .words - 3) [] no-item))
+
+pub format-ready : {a : Area} {f : List ℕ} → Given a f → ready a (made (formatList a f) f) ≡ true
+format-ready g = settled-ready (format-settled g) (rw (format-empty g))
+
+-- ---- how many
+length-each : (a : Area) (n j : ℕ) (f : List ℕ) → length (each (formatPage a) n j f) ≡ 4 * n
+length-each a zero j f = refl
+length-each a (suc n) j f = let ih = length-each a n (suc j) (made (formatPage a j f) f) in omega arith
+
+pub format-length : (a : Area) (f : List ℕ) → length (formatList a f) ≡ 1 + 4 * a .pages
+format-length a f = let e = length-each a (a .pages) 0 (made (eraseR a f) f) in omega arith
