@@ -1,7 +1,7 @@
 -- Recovery's step (a), and the whole of a recovery: cut anywhere and made anew, it ends in the very same flash, and that is a ready
 -- area. Assumes nothing.
 use mathlib.Core.Path.{_≡_, refl, ap, sym, _∙_, subst}
-use mathlib.Core.Logic.{⊎-elim, _≢_}
+use mathlib.Core.Logic.{⊎-elim, _⊎_, _≢_}
 use mathlib.Core.List.{List, [], _∷_, _++_, append-assoc, append-nil}
 use mathlib.Core.Bool.{Bool, true, false, cond, not, _&&_, _||_, true≢false}
 use Prim.Native.Nat.{ℕ, suc, zero, _+_, _-_, _≤_, _<_, zero-le}
@@ -18,12 +18,12 @@ use Rattle.rules.specs.Walk.{Item, codes, items, stop, allBlank, sealed, kindOf
 use Rattle.rules.specs.Areas.{R, base, page, kind, every, Recovery, free, unfinished, committed, damage, recoveryOf, recovery, isDamage, names, entries, twice, damaged, ready}
 use Rattle.rules.specs.Lists.{erase, copyTo, restore, finishAs, finish, dropDoubles, recoverList}
 use Rattle.rules.specs.Laws.{and-left, and-right}
-use Rattle.demands.specs.Terms.{Given, Fair, fair-end, recovered}
+use Rattle.demands.specs.Terms.{Given, Fair, fair-end, Map, recovered}
 use Rattle.demands.specs.Stages.{made-append, after, after-then, fair-append, Resumes, then-resumes, peels-resumes, peels-ends, peels-fair}
 use Rattle.demands.specs.Pages.{blanks, image, length-image, goods-items, at-seal, kind-image, stop-image, sealed-shape, is-sealed, words-image}
 use Rattle.demands.specs.Runs.{same-or-not, over-blank, take-puts, length-puts, words-take, words-append, words-left, words-page, page-in, length-page, Only, only-self, only-as, only-trans, only-same, Turns, turns-none, turns-as, turns-then, turns-put, turns-fill, turns-wipe, every-true, true-every}
 use Rattle.demands.specs.Entries.{supersede-none}
-use Rattle.demands.specs.Mending.{given-made, shape-of, free-blank, Mended, Settled, mended-free, mended-sound, ready-settled, mendAll, mendAndDrop, later-peels, later-ready, settled-mends}
+use Rattle.demands.specs.Mending.{given-made, shape-of, free-blank, Mended, Settled, Stands, mended-free, mended-sound, ready-settled, mendAll, mendAndDrop, later-peels, later-ready, settled-mends}
 
 -- ---- words copied to a blank page
 pub meta-low : (n i : ℕ) → i < n → n ≤ 255 → meta1 n i < blank
@@ -121,7 +121,7 @@ undamaged-pages {a} {f} u i h =
     every-true (λ i. names (recovery a f) i || isSound (kind a f i)) (a .pages) 0
     (not-false (every (λ i. names (recovery a f) i || isSound (kind a f i)) (a .pages) 0) (or-false (isDamage (recovery a f)) _ (u .sound) .1)) i zero-le (omega arith)
 
-undamaged-by : (a : Area) (f : List ℕ) → isDamage (recovery a f) ≡ false → ((i : ℕ) → i < a .pages → names (recovery a f) i || isSound (kind a f i) ≡ true) → damaged a f ≡ false
+pub undamaged-by : (a : Area) (f : List ℕ) → isDamage (recovery a f) ≡ false → ((i : ℕ) → i < a .pages → names (recovery a f) i || isSound (kind a f i) ≡ true) → damaged a f ≡ false
 unfolding damaged
 undamaged-by a f d h = rw (d, true-every (λ i. names (recovery a f) i || isSound (kind a f i)) (a .pages) 0 (λ i lo hi. h i (omega arith)))
 
@@ -341,6 +341,11 @@ module _ (a : Area) (f : List ℕ) (u : Undamaged a f) where
       go (committed i) e = committed-finished i e
       go damage e = absurd (true≢false (rw e at (u .sound)))
 
+-- Recovered, the area stands with one map or with another.
+pub record Safe (a : Area) (m : Map) (n : ℕ) (m′ : Map) (n′ : ℕ) (g : List ℕ) : Type 0 where
+  pub undamaged : Undamaged a g
+  pub ends : Stands a m n (recovered a g) ⊎ Stands a m′ n′ (recovered a g)
+
 -- ---- the whole
 module _ (a : Area) where
   pub finish-resumes : Resumes (Undamaged a) (finish a)
@@ -370,3 +375,7 @@ module _ (a : Area) where
 
   pub ready-rests : (f : List ℕ) → Given a f → ready a f ≡ true → recoverList a f ≡ []
   ready-rests f g e = let p = ready-settled g e in recover-settled f (p .0) ∙ supersede-none (entries a f) (p .1)
+
+  -- a ready area is recovered to itself
+  pub stands-recovered : {m : Map} {n : ℕ} (f : List ℕ) → Stands a m n f → recovered a f ≡ f
+  stands-recovered f s = rw (ready-rests f (s .given) (s .ready))

@@ -8,4 +8,7 @@ pub mod Mending
 pub mod Finishing
 pub mod Format
 pub mod Room
+pub mod Compacting
+pub mod Appending
+pub mod Reading
 pub mod Orders

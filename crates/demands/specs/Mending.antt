@@ -23,7 +23,7 @@ use Rattle.rules.specs.Laws.{and-left, and-right}
 use Rattle.demands.specs.Terms.{Given, Fair, Map}
 use Rattle.demands.specs.Stages.{after, Peels, then-peels, each-peels, each-ends, each-rests, each-one}
 use Rattle.demands.specs.Pages.{blanks, item, image, Good, Goods, no-item, good-item, goods-append, goods-left, goods-right, goods-head, goods-items, bare-header, header-dead, at-seal, at-blank, blank-all, all-blank, items-image, kind-image, stop-image, sealed-shape, torn-shape, is-sealed, codes-append, front, length-front, image-front, image-at}
-use Rattle.demands.specs.Runs.{same-or-not, Right, right, right-wrong, page-in, length-page, Only, Turns, turns-as, turns-put, every-true, true-every}
+use Rattle.demands.specs.Runs.{same-or-not, Right, right, right-wrong, page-in, length-page, Only, Turns, turns-as, turns-then, turns-put, every-true, true-every}
 use Rattle.demands.specs.Entries.{zeroed, look, none-supersede, supersede-first}
 use Rattle.demands.specs.Layout.{entryAt, placed-append, Located, located}
 
@@ -286,6 +286,16 @@ module _ (a : Area) (i : ℕ) (h : i < a .pages) where
         let p = torn-shape (a .pages) i (page a f i) (omega arith) e in
         torn-first (items (page a f i)) (p .0) (goods-items (page a f i)) (p .1) x xs (sym (mend-torn f (items (page a f i)) (p .0) (goods-items (page a f i)) (p .1)) ∙ q)
     mend-first neither e x xs q = absurd (false≢true (sym (ap isSound e) ∙ m .sound i h))
+
+  -- a live last entry is invalidated, and the page sealed
+  pub mend-last : (f : List ℕ) (es : List Item) (x : Item) (n : ℕ) → base a (suc i) ≤ length f → Goods (es ++ (x ∷ [])) → isLive (x .handle) ≡ true
+      → page a f i ≡ image (a .pages) i (es ++ (x ∷ [])) (blank ∷ blanks n) → Only a f (after (mend a i) f) i (image (a .pages) i (es ++ (item 0 (x .words) ∷ [])) (seal ∷ blanks n))
+  mend-last f es x n l gs v e =
+      let at = base a i + 2 + length (codes es) in
+      let z : length (codes (es ++ (item 0 (x .words) ∷ []))) ≡ length (codes (es ++ (x ∷ []))) = simp (codes-append, length-append) in
+      let b = turns-bare a i es x [] (blank ∷ blanks n) (base a i + 2 + length (codes es)) (omega arith) (goods-head (goods-right es gs) .short) in
+      let s = turns-seal a i (es ++ (item 0 (x .words) ∷ [])) (blanks n) (base a i + (2 + length (codes (es ++ (x ∷ []))))) (omega arith) in
+      rw (mend-torn f (es ++ (x ∷ [])) n gs e, last-placed es x, v) (turns-then b s .on f l e .1)
 
   mend-peels : Peels (Mended a i) (mend a i)
   mend-peels = record { first = λ f m x xs q. mend-first i (omega arith) f m (kind a f i) refl x xs q }
