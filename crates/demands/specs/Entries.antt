@@ -15,7 +15,7 @@ use Rattle.rules.specs.Words.{isLive}
 use Rattle.rules.specs.Walk.{Item, entryLength, codes}
 use Rattle.rules.specs.Areas.{Entry, placed, anyOf, firstOf, liveOf, doubled, twice, find, dataOf, liveWords}
 use Rattle.rules.specs.Lists.{bare, keepLive, supersede}
-use Rattle.rules.specs.Laws.{and-left, and-right}
+use Rattle.rules.specs.Laws.{and-left, and-right, nor-left, nor-right}
 
 -- an entry whose header is its bare length
 abbrev pub zeroed : Entry → Entry
@@ -29,14 +29,6 @@ look h es = dataOf (find h es)
 untrue : (b : Bool) → (b ≡ true → ⊥) → b ≡ false
 untrue true h = absurd (h refl)
 untrue false h = refl
-
-neither-left : (a b : Bool) → a || b ≡ false → a ≡ false
-neither-left true b e = e
-neither-left false b e = refl
-
-neither-right : (a b : Bool) → a || b ≡ false → b ≡ false
-neither-right true b e = absurd (true≢false e)
-neither-right false b e = e
 
 -- ---- one entry
 pub live-handle : (h : ℕ) (e : Entry) → liveOf h e ≡ true → (isLive h ≡ true) × (e .handle ≡ h)
@@ -90,20 +82,22 @@ none-dead h (c ∷ x) q = rw q (none-dead h x q)
 
 first-at : (t : Entry → Bool) (x : List Entry) (e : Entry) (y : List Entry) → t e ≡ true → anyOf t (x ++ y) ≡ false → firstOf t (x ++ e ∷ y) ≡ some e
 first-at t [] e y p q = rw p
-first-at t (c ∷ x) e y p q = rw (neither-left (t c) _ q) (first-at t x e y p (neither-right (t c) _ q))
+first-at t (c ∷ x) e y p q = rw (nor-left (t c) _ q) (first-at t x e y p (nor-right (t c) _ q))
+
+pub first-some : (t : Entry → Bool) (x : List Entry) (e : Entry) → firstOf t x ≡ some e → (pre suf : List Entry) × (x ≡ pre ++ e ∷ suf) × (t e ≡ true)
+first-some t [] e q = absurd (let z : _≡_ {A = ℕ} 0 1 = cc in omega arith)
+first-some t (c ∷ x) e q = go (t c) refl q (first-some t x e)
+  where
+    go : (b : Bool) → t c ≡ b → cond b (some c) (firstOf t x) ≡ some e
+        → (firstOf t x ≡ some e → (pre suf : List Entry) × (x ≡ pre ++ e ∷ suf) × (t e ≡ true)) → (pre suf : List Entry) × (c ∷ x ≡ pre ++ e ∷ suf) × (t e ≡ true)
+    go true r q ih = let k : c ≡ e = cc in ([], x, ap (λ (u : Entry). u ∷ x) k, ap t (sym k) ∙ r)
+    go false r q ih = let n = ih q in (c ∷ n .0, n .1, ap (λ (u : List Entry). c ∷ u) (n .2), n .3)
 
 pub find-some : (h : ℕ) (x : List Entry) (e : Entry) → find h x ≡ some e → (p s : List Entry) × (x ≡ p ++ e ∷ s) × (e .handle ≡ h) × (isLive h ≡ true)
-find-some h [] e q = absurd (let z : _≡_ {A = ℕ} 0 1 = cc in omega arith)
-find-some h (c ∷ x) e q = go (liveOf h c) refl q (find-some h x e)
-  where
-    go : (b : Bool) → liveOf h c ≡ b → cond b (some c) (find h x) ≡ some e
-        → (find h x ≡ some e → (p s : List Entry) × (x ≡ p ++ e ∷ s) × (e .handle ≡ h) × (isLive h ≡ true))
-        → (p s : List Entry) × (c ∷ x ≡ p ++ e ∷ s) × (e .handle ≡ h) × (isLive h ≡ true)
-    go true r q ih =
-        let k : c ≡ e = cc in
-        let t = live-handle h c r in
-        ([], x, ap (λ (u : Entry). u ∷ x) k, ap (λ (u : Entry). u .handle) (sym k) ∙ t .1, t .0)
-    go false r q ih = let t = ih q in (c ∷ t .0, t .1, ap (λ (u : List Entry). c ∷ u) (t .2), t .3, t .4)
+find-some h x e q =
+    let r = first-some (liveOf h) x e q in
+    let l = live-handle h e (r .3) in
+    (r .0, r .1, r .2, l .1, l .0)
 
 pub find-none : (h : ℕ) (x : List Entry) → find h x ≡ none → anyOf (liveOf h) x ≡ false
 find-none h [] q = refl
@@ -115,31 +109,31 @@ find-none h (c ∷ x) q = go (liveOf h c) refl q (find-none h x)
 
 pub none-find : (h : ℕ) (x : List Entry) → anyOf (liveOf h) x ≡ false → find h x ≡ none
 none-find h [] q = refl
-none-find h (c ∷ x) q = rw (neither-left (liveOf h c) _ q) (none-find h x (neither-right (liveOf h c) _ q))
+none-find h (c ∷ x) q = rw (nor-left (liveOf h c) _ q) (none-find h x (nor-right (liveOf h c) _ q))
 
 -- ---- twice
 pub once-insert : (x : List Entry) (e : Entry) (y : List Entry) → anyOf (liveOf (e .handle)) (x ++ y) ≡ false → twice (x ++ y) ≡ false → twice (x ++ e ∷ y) ≡ false
 once-insert [] e y q t = rw (q, t)
 once-insert (c ∷ x) e y q t =
-    let a = neither-left (liveOf (e .handle) c) _ q in
-    let b = neither-right (liveOf (e .handle) c) _ q in
-    let u = neither-left (doubled c (x ++ y)) _ t in
-    let v = neither-right (doubled c (x ++ y)) _ t in
+    let a = nor-left (liveOf (e .handle) c) _ q in
+    let b = nor-right (liveOf (e .handle) c) _ q in
+    let u = nor-left (doubled c (x ++ y)) _ t in
+    let v = nor-right (doubled c (x ++ y)) _ t in
     rw (any-skip (liveOf (c .handle)) x e y (live-turn c e a), u) (once-insert x e y b v)
 
 pub once-drop : (x : List Entry) (e : Entry) (y : List Entry) → twice (x ++ e ∷ y) ≡ false → twice (x ++ y) ≡ false
-once-drop [] e y t = neither-right (doubled e y) _ t
+once-drop [] e y t = nor-right (doubled e y) _ t
 once-drop (c ∷ x) e y t =
-    let u = neither-left (doubled c (x ++ e ∷ y)) _ t in
-    let v = neither-right (doubled c (x ++ e ∷ y)) _ t in
+    let u = nor-left (doubled c (x ++ e ∷ y)) _ t in
+    let v = nor-right (doubled c (x ++ e ∷ y)) _ t in
     rw (none-drop (liveOf (c .handle)) x e y u) (once-drop x e y v)
 
 -- the handle of a live entry is live nowhere else
 pub once-apart : (x : List Entry) (e : Entry) (y : List Entry) → twice (x ++ e ∷ y) ≡ false → anyOf (liveOf (e .handle)) (x ++ y) ≡ false
-once-apart [] e y t = neither-left (doubled e y) _ t
+once-apart [] e y t = nor-left (doubled e y) _ t
 once-apart (c ∷ x) e y t =
-    let u = neither-left (doubled c (x ++ e ∷ y)) _ t in
-    let v = neither-right (doubled c (x ++ e ∷ y)) _ t in
+    let u = nor-left (doubled c (x ++ e ∷ y)) _ t in
+    let v = nor-right (doubled c (x ++ e ∷ y)) _ t in
     rw (live-turn e c (none-at (liveOf (c .handle)) x e y u)) (once-apart x e y v)
 
 -- ---- lists in which no handle sees a difference: the second has the entries of the first, wherever they stand, and dead ones
@@ -225,7 +219,7 @@ live-skip x e y = sym (alike-live (alike-skip x e y))
 -- ---- doubles
 pub supersede-none : (x : List Entry) → twice x ≡ false → supersede x ≡ []
 supersede-none [] q = refl
-supersede-none (e ∷ x) q = rw (neither-left (doubled e x) _ q) (supersede-none x (neither-right (doubled e x) _ q))
+supersede-none (e ∷ x) q = rw (nor-left (doubled e x) _ q) (supersede-none x (nor-right (doubled e x) _ q))
 
 pub none-supersede : (x : List Entry) → supersede x ≡ [] → twice x ≡ false
 none-supersede [] q = refl
@@ -237,10 +231,10 @@ none-supersede (e ∷ x) q = go (doubled e x) refl q (none-supersede x)
 
 pub supersede-one : (p : List Entry) (e : Entry) (s : List Entry) → doubled e s ≡ true → twice (p ++ zeroed e ∷ s) ≡ false → supersede (p ++ e ∷ s) ≡ bare e ∷ []
 supersede-one [] e s d t = rw (d, supersede-none s (once-drop [] (zeroed e) s t))
-supersede-one (c ∷ p) e s d t = rw (any-skip (liveOf (c .handle)) p e s other ∙ n) (supersede-one p e s d (neither-right (doubled c (p ++ zeroed e ∷ s)) _ t))
+supersede-one (c ∷ p) e s d t = rw (any-skip (liveOf (c .handle)) p e s other ∙ n) (supersede-one p e s d (nor-right (doubled c (p ++ zeroed e ∷ s)) _ t))
   where
     n : doubled c (p ++ s) ≡ false
-    n = none-drop (liveOf (c .handle)) p (zeroed e) s (neither-left (doubled c (p ++ zeroed e ∷ s)) _ t)
+    n = none-drop (liveOf (c .handle)) p (zeroed e) s (nor-left (doubled c (p ++ zeroed e ∷ s)) _ t)
 
     other : liveOf (c .handle) e ≡ false
     other =

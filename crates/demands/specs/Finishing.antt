@@ -17,7 +17,7 @@ use Rattle.rules.specs.Words.{meta0, meta1, indexOf, seal}
 use Rattle.rules.specs.Walk.{Item, codes, items, stop, allBlank, sealed, kindOf, isSealed, isSound}
 use Rattle.rules.specs.Areas.{R, base, page, kind, every, Recovery, free, unfinished, committed, damage, recoveryOf, recovery, isDamage, names, entries, twice, damaged, ready}
 use Rattle.rules.specs.Lists.{erase, copyTo, restore, finishAs, finish, dropDoubles, recoverList}
-use Rattle.rules.specs.Laws.{and-left, and-right}
+use Rattle.rules.specs.Laws.{and-left, and-right, nor-right}
 use Rattle.demands.specs.Terms.{Given, Fair, fair-end, Map, recovered}
 use Rattle.demands.specs.Stages.{made-append, after, after-then, fair-append, Resumes, then-resumes, peels-resumes, peels-ends, peels-fair}
 use Rattle.demands.specs.Pages.{blanks, image, length-image, goods-items, at-seal, kind-image, stop-image, sealed-shape, is-sealed, words-image}
@@ -111,15 +111,11 @@ pub record Undamaged (a : Area) (f : List ℕ) : Type 0 where
   pub given : Given a f
   pub sound : damaged a f ≡ false
 
-or-false : (s t : Bool) → s || t ≡ false → (s ≡ false) × (t ≡ false)
-or-false true t e = absurd (true≢false e)
-or-false false t e = (refl, e)
-
 undamaged-pages : {a : Area} {f : List ℕ} → Undamaged a f → (i : ℕ) → i < a .pages → names (recovery a f) i || isSound (kind a f i) ≡ true
 unfolding damaged
 undamaged-pages {a} {f} u i h =
     every-true (λ i. names (recovery a f) i || isSound (kind a f i)) (a .pages) 0
-    (not-false (every (λ i. names (recovery a f) i || isSound (kind a f i)) (a .pages) 0) (or-false (isDamage (recovery a f)) _ (u .sound) .1)) i zero-le (omega arith)
+    (not-false (every (λ i. names (recovery a f) i || isSound (kind a f i)) (a .pages) 0) (nor-right (isDamage (recovery a f)) _ (u .sound))) i zero-le (omega arith)
 
 pub undamaged-by : (a : Area) (f : List ℕ) → isDamage (recovery a f) ≡ false → ((i : ℕ) → i < a .pages → names (recovery a f) i || isSound (kind a f i) ≡ true) → damaged a f ≡ false
 unfolding damaged

@@ -12,3 +12,4 @@ pub mod Compacting
 pub mod Appending
 pub mod Reading
 pub mod Orders
+pub mod Requests

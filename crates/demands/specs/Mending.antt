@@ -3,7 +3,7 @@
 use mathlib.Core.Path.{_≡_, refl, ap, sym, _∙_, subst}
 use mathlib.Core.Logic.{⊎-elim, _⊎_, inl, inr, _≢_}
 use mathlib.Core.List.{List, [], _∷_, _++_, append-assoc, append-nil, nil≢cons, head-eq-of-cons-eq, tail-eq-of-cons-eq}
-use mathlib.Core.Bool.{Bool, true, false, cond, not, _&&_, false≢true}
+use mathlib.Core.Bool.{Bool, true, false, cond, not, _&&_, and-false, false≢true}
 use mathlib.Core.Option.{Option, some, none}
 use Prim.Native.Nat.{ℕ, suc, zero, _+_, _-_, _≤_, _<_, zero-le}
 use native.Mathlib.Omega.{arith}
@@ -11,13 +11,14 @@ use native.Mathlib.Nat.{eq-or-lt-of-le, le-of-suc-le-suc}
 use lib.ListN.{length, getD, length-append}
 use lib.Bits.{bitAnd}
 use lib.Dec.{eqb, ltb}
-use borrow.Author.Tests.{not-true, ne-eqb, lt-ltb, ltb-true}
+use borrow.Author.Tests.{not-true, not-false, ne-eqb, lt-ltb, ltb-true}
 use Rattle.flash.specs.Stores.{blank, Words, Store, put, stored, apply, made, madeFirst, Step, _then_, each}
 use Rattle.flash.specs.Laws.{words-made, length-made}
 use Rattle.rules.specs.declared.Area.{Area}
 use Rattle.rules.specs.Words.{meta1, indexOf, header, special, isLive, seal}
 use Rattle.rules.specs.Walk.{Item, entryLength, codes, items, stop, allBlank, Kind, sealed, torn, neither, kindOf, isSealed, isSound}
 use Rattle.rules.specs.Areas.{R, base, page, kind, every, Recovery, free, unfinished, committed, damage, recoveryOf, recovery, isFree, names, Entry, placed, pageEntries, entries, twice, damaged, ready, mapOf, liveWords}
+use Rattle.rules.specs.Refusals.{unready}
 use Rattle.rules.specs.Lists.{bare, lastOf, bareIfLive, mend, supersede, dropDoubles}
 use Rattle.rules.specs.Laws.{and-left, and-right}
 use Rattle.demands.specs.Terms.{Given, Fair, Map}
@@ -94,6 +95,19 @@ ready-settled {a} {f} g e =
       },
       not-true (twice (entries a f)) (and-right (every (λ i. isSealed (kind a f i)) (a .pages) 0) _ p),
     )
+
+-- the checks that requests begin with
+module _ (a : Area) (f : List ℕ) where
+  pub ready-sound : Given a f → ready a f ≡ true → damaged a f ≡ false
+  ready-sound g r = mended-sound (ready-settled g r .0)
+
+  pub ready-passed : ready a f ≡ true → unready a f ≡ false
+  unfolding unready
+  ready-passed r = rw r (and-false (not (damaged a f)))
+
+  pub passed-ready : damaged a f ≡ false → unready a f ≡ false → ready a f ≡ true
+  unfolding unready
+  passed-ready d u = not-false (ready a f) (rw d at u)
 
 -- the area is ready, its map is m, and it has at most n live words
 pub record Stands (a : Area) (m : Map) (n : ℕ) (f : List ℕ) : Type 0 where

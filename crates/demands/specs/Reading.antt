@@ -22,21 +22,15 @@ use Rattle.rules.specs.Walk.{Item, entryLength, codes, items}
 use Rattle.rules.specs.Areas.{base, page, Entry, placed, entriesFrom, entries, firstOf, liveOf, twice, find, dataOf, mapOf, damaged, ready}
 use Rattle.rules.specs.Refusals.{unready, badHandle, isNone, checked, findChecks}
 use Rattle.rules.specs.Search.{placeOf, dataLength, readOf, matches, next, badPlace, searchChecks, searchOf}
-use Rattle.rules.specs.Laws.{and-left, and-right}
-use Rattle.demands.specs.Terms.{Given}
+use Rattle.rules.specs.Laws.{and-left, and-right, passed-checked, checked-passed}
+use Rattle.demands.specs.Terms.{Given, StandsAt}
 use Rattle.demands.specs.Pages.{blanks, item, image, Goods, goods-right, goods-head, goods-items, length-image, front, length-front, image-at}
 use Rattle.demands.specs.Runs.{base-suc, length-page, page-in}
-use Rattle.demands.specs.Entries.{find-some, once-apart, look-add}
+use Rattle.demands.specs.Entries.{first-some, find-some, once-apart, look-add}
 use Rattle.demands.specs.Layout.{Located, located}
-use Rattle.demands.specs.Mending.{shape-of, Settled, mended-sound, ready-settled, settled-page}
+use Rattle.demands.specs.Mending.{shape-of, Settled, ready-settled, ready-sound, ready-passed, passed-ready, settled-page}
 
 -- ---- where entries stand
--- the entry of the handle h with the data d stands at the place p of the run: its header there, its data behind it
-pub record StandsAt (f : List ℕ) (p h : ℕ) (d : List ℕ) : Type 0 where
-  pub head : getD f p 0 ≡ header h (entryLength d)
-  pub words : take (length d) (drop (suc p) f) ≡ d
-  pub inside : p + length d < length f
-
 -- an entry written in a page: the run before it and behind it
 module _ (a : Area) (f : List ℕ) (i : ℕ) (u : List ℕ) (h : ℕ) (d v : List ℕ) where
   abbrev head : ℕ
@@ -147,52 +141,10 @@ pub places-grow : {a : Area} {f : List ℕ} → Settled a f → (pre : List Entr
     → entries a f ≡ pre ++ e ∷ (mid ++ c ∷ suf) → e .place < c .place
 places-grow s pre e mid c suf q = grow-apart pre e mid c suf (grow-entries s _ q)
 
--- ---- checks
--- none applies
-abbrev Passed : List (Bool × Refusal) → Type 0
-Passed [] = Unit {0}
-Passed (c ∷ cs) = (c .0 ≡ false) × Passed cs
-
-passed-checked : {A : Type 0} (refused : Refusal → A) (cs : List (Bool × Refusal)) (x : A) → Passed cs → checked refused cs x ≡ x
-passed-checked refused [] x p = refl
-passed-checked refused (c ∷ cs) x p = rw (p .0) (passed-checked refused cs x (p .1))
-
--- an answer that is no refusal
-checked-passed : {A : Type 0} (refused : Refusal → A) (cs : List (Bool × Refusal)) (x y : A) → ((n : Refusal) → refused n ≡ y → ⊥) → checked refused cs x ≡ y
-    → Passed cs × (x ≡ y)
-checked-passed refused [] x y h q = (tt, q)
-checked-passed refused (c ∷ cs) x y h q = go (c .0) refl q (checked-passed refused cs x y h)
-  where
-    go : (b : Bool) → c .0 ≡ b → cond b (refused (c .1)) (checked refused cs x) ≡ y → (checked refused cs x ≡ y → Passed cs × (x ≡ y)) → Passed (c ∷ cs) × (x ≡ y)
-    go true r q ih = absurd (h (c .1) q)
-    go false r q ih = let t = ih q in ((r, t .0), t .1)
-
--- of a ready area, those that the requests begin with
-module _ (a : Area) (f : List ℕ) where
-  ready-sound : Given a f → ready a f ≡ true → damaged a f ≡ false
-  ready-sound g r = mended-sound (ready-settled g r .0)
-
-  ready-passed : ready a f ≡ true → unready a f ≡ false
-  unfolding unready
-  ready-passed r = rw r (and-false (not (damaged a f)))
-
-  passed-ready : damaged a f ≡ false → unready a f ≡ false → ready a f ≡ true
-  unfolding unready
-  passed-ready d u = not-false (ready a f) (rw d at u)
-
 -- ---- the first entry that passes a test
 held : (o : Option Entry) → isNone o ≡ false → (e : Entry) × (o ≡ some e)
 held none q = absurd (true≢false q)
 held (some e) q = (e, refl)
-
-first-some : (t : Entry → Bool) (x : List Entry) (e : Entry) → firstOf t x ≡ some e → (pre suf : List Entry) × (x ≡ pre ++ e ∷ suf) × (t e ≡ true)
-first-some t [] e q = absurd (let z : _≡_ {A = ℕ} 0 1 = cc in omega arith)
-first-some t (c ∷ x) e q = go (t c) refl q (first-some t x e)
-  where
-    go : (b : Bool) → t c ≡ b → cond b (some c) (firstOf t x) ≡ some e
-        → (firstOf t x ≡ some e → (pre suf : List Entry) × (x ≡ pre ++ e ∷ suf) × (t e ≡ true)) → (pre suf : List Entry) × (c ∷ x ≡ pre ++ e ∷ suf) × (t e ≡ true)
-    go true r q ih = let k : c ≡ e = cc in ([], x, ap (λ (u : Entry). u ∷ x) k, ap t (sym k) ∙ r)
-    go false r q ih = let n = ih q in (c ∷ n .0, n .1, ap (λ (u : List Entry). c ∷ u) (n .2), n .3)
 
 -- where places grow, no entry that passes stands before it
 first-least : (t : Entry → Bool) {lo hi : ℕ} (pre : List Entry) (e : Entry) (suf : List Entry) → Grow lo (pre ++ e ∷ suf) hi → t e ≡ true

@@ -23,7 +23,7 @@ use Rattle.rules.specs.Words.{wordsOf, sizeOf}
 use Rattle.rules.specs.Areas.{base, page, every}
 use Rattle.rules.specs.Refusals.{isListed, wrongGeometry}
 use Rattle.rules.specs.Lists.{erase}
-use Rattle.rules.specs.Laws.{and-left, and-right, size-words}
+use Rattle.rules.specs.Laws.{and-left, and-right, nor-left, nor-right, size-words}
 use Rattle.demands.specs.Terms.{Fair, fair-end, fair-put, fair-wipe}
 use Rattle.demands.specs.Stages.{made-append, fair-append}
 use Rattle.demands.specs.Pages.{blanks}
@@ -107,10 +107,6 @@ pub record Right (a : Area) (f : List ℕ) : Type 0 where
   pub wide : 64 ≤ a .words
   pub long : length f ≡ base a (suc (a .pages))
 
-both-false : (s t : Bool) → s || t ≡ false → (s ≡ false) × (t ≡ false)
-both-false true t e = absurd (true≢false e)
-both-false false t e = (refl, e)
-
 listed-wide : (P : ℕ) → isListed (sizeOf P) ≡ true → 64 ≤ P
 listed-wide P e = go (sizeOf P) refl
   where
@@ -130,14 +126,13 @@ right a f e =
     let hi = leb (a .pages) 255 in
     let s = isListed (sizeOf (a .words)) in
     let l = eqb (length f) ((a .pages + 1) * a .words) in
-    let p = both-false (not (lo && hi)) (not s || not l) e in
-    let q = both-false (not s) (not l) (p .1) in
-    let m = not-false (lo && hi) (p .0) in
+    let p = nor-right (not (lo && hi)) (not s || not l) e in
+    let m = not-false (lo && hi) (nor-left (not (lo && hi)) (not s || not l) e) in
     record {
       some-pages = leb-true 1 (a .pages) (and-left lo hi m);
       many = leb-true (a .pages) 255 (and-right lo hi m);
-      wide = listed-wide (a .words) (not-false s (q .0));
-      long = eqb-true (length f) ((a .pages + 1) * a .words) (not-false l (q .1)) ∙ ap (λ (u : ℕ). u * a .words) (add-one (a .pages));
+      wide = listed-wide (a .words) (not-false s (nor-left (not s) (not l) p));
+      long = eqb-true (length f) ((a .pages + 1) * a .words) (not-false l (nor-right (not s) (not l) p)) ∙ ap (λ (u : ℕ). u * a .words) (add-one (a .pages));
     }
 
 pub right-wrong : (a : Area) (f g : List ℕ) → wrongGeometry a f ≡ false → length g ≡ length f → wrongGeometry a g ≡ false

@@ -4,8 +4,8 @@ use mathlib.Core.List.{List, [], _∷_}
 use mathlib.Core.Bool.{Bool, true, false, cond}
 use mathlib.Core.Option.{Option, some, none}
 use mathlib.Core.Logic.{_≢_}
-use Prim.Native.Nat.{ℕ, _+_, _≤_, _<_}
-use lib.ListN.{length, getD}
+use Prim.Native.Nat.{ℕ, suc, _+_, _≤_, _<_}
+use lib.ListN.{length, getD, take, drop}
 use lib.Bits.{bitAnd}
 use lib.Dec.{eqb}
 use Rattle.flash.specs.Stores.{Words, Store, put, wipe, stored, wiped, made}
@@ -13,6 +13,7 @@ use Rattle.rules.specs.declared.Area.{Area}
 use Rattle.rules.specs.declared.Answer.{Answer}
 use Rattle.rules.specs.declared.Refusal.{Refusal}
 use Rattle.rules.specs.declared.Refusal.the-variants.{NotFound}
+use Rattle.rules.specs.Words.{header}
 use Rattle.rules.specs.Walk.{entryLength}
 use Rattle.rules.specs.Areas.{mapOf, ready}
 use Rattle.rules.specs.Refusals.{wrongGeometry, badHandle, badLength, Outcome, outcome}
@@ -32,7 +33,21 @@ pub data Fair : List Store → List ℕ → Type 0 where
   fair-wipe : {at n : ℕ} {ss : List Store} {f : List ℕ} → at + n ≤ length f → Fair ss (wiped f at n) → Fair (wipe at n ∷ ss) f
 
 -- ---- requests and maps
--- a write or a delete of a handle that entries may have; the data of a write is at most 32 words of 32 bits
+-- a request that anyone can type: the data of a write is a list of 32-bit words
+abbrev pub Typed : Request → Type 0
+Typed format = Unit {0}
+Typed recover = Unit {0}
+Typed (write h d) = Words d
+Typed (delete h) = Unit {0}
+
+-- a write or a delete
+abbrev pub Change : Request → Type 0
+Change format = ⊥
+Change recover = ⊥
+Change (write h d) = Words d
+Change (delete h) = Unit {0}
+
+-- one that is refused neither by BADHANDLE nor by BADLENGTH
 abbrev pub Proper : Request → Type 0
 Proper format = ⊥
 Proper recover = ⊥
@@ -134,3 +149,10 @@ FineAll m [] [] = Unit {0}
 FineAll m [] (x ∷ xs) = ⊥
 FineAll m (r ∷ rs) [] = ⊥
 FineAll m (r ∷ rs) (x ∷ xs) = Fine m r x × FineAll m rs xs
+
+-- ---- what stands in the run
+-- the entry of the handle h with the data d stands at the place p of the run: its header there, its data behind it
+pub record StandsAt (f : List ℕ) (p h : ℕ) (d : List ℕ) : Type 0 where
+  pub head : getD f p 0 ≡ header h (entryLength d)
+  pub words : take (length d) (drop (suc p) f) ≡ d
+  pub inside : p + length d < length f

@@ -1,7 +1,7 @@
 -- Laws of the definitions: page sizes, headers, where the walk stops, and answers against the stores made. Assumes nothing.
 use mathlib.Core.Path.{_≡_, refl, ap, sym, _∙_}
 use mathlib.Core.List.{List, [], _∷_}
-use mathlib.Core.Bool.{Bool, true, false, cond, _&&_, false≢true}
+use mathlib.Core.Bool.{Bool, true, false, cond, _&&_, _||_, true≢false, false≢true}
 use mathlib.Core.Logic.{⊎-elim}
 use Prim.Native.Nat.{ℕ, suc, zero, _+_, _-_, _*_, _^_, _≤_, _<_}
 use native.Mathlib.Omega.{arith}
@@ -16,10 +16,11 @@ use Rattle.flash.specs.Laws.{le-or-lt}
 use Rattle.rules.specs.declared.PageSize.{PageSize}
 use Rattle.rules.specs.declared.PageSize.the-variants.{Small, Medium, Large}
 use Rattle.rules.specs.declared.FoundSize.{FoundSize}
+use Rattle.rules.specs.declared.Refusal.{Refusal}
 use Rattle.rules.specs.declared.Answer.{Answer}
 use Rattle.rules.specs.Words.{wordsOf, sizeOf, longest, header, handleOf, lengthOf, special, seal}
 use Rattle.rules.specs.Walk.{begins, walkIn, rest, stop}
-use Rattle.rules.specs.Refusals.{answerStores, list, outcomeOf}
+use Rattle.rules.specs.Refusals.{answerStores, checked, list, outcomeOf}
 
 -- ---- tests
 pub and-left : (a b : Bool) → a && b ≡ true → a ≡ true
@@ -29,6 +30,14 @@ and-left false b e = e
 pub and-right : (a b : Bool) → a && b ≡ true → b ≡ true
 and-right true b e = e
 and-right false b e = absurd (false≢true e)
+
+pub nor-left : (a b : Bool) → a || b ≡ false → a ≡ false
+nor-left true b e = e
+nor-left false b e = refl
+
+pub nor-right : (a b : Bool) → a || b ≡ false → b ≡ false
+nor-right true b e = absurd (true≢false e)
+nor-right false b e = e
 
 -- ---- page sizes: the size that is found for P is the one of P words
 pub words-size : (s : PageSize) → sizeOf (wordsOf s) ≡ FoundSize.Is s
@@ -137,3 +146,23 @@ pub ran-outcome : (ss : List Store) (k : ℕ) {f g : List ℕ} {q : Power} → R
     → outcomeOf (list ss) k f ≡ record { answer = answerOf k q; flash = g }
 ran-outcome ss k {f} x =
     rw (x .power, x .words) (ap (λ (r : Answer). record { answer = r; flash = madeFirst k ss f }) (answer-spent ss k f))
+
+-- ---- checks
+-- none applies
+abbrev pub Passed : List (Bool × Refusal) → Type 0
+Passed [] = Unit {0}
+Passed (c ∷ cs) = (c .0 ≡ false) × Passed cs
+
+pub passed-checked : {A : Type 0} (refused : Refusal → A) (cs : List (Bool × Refusal)) (x : A) → Passed cs → checked refused cs x ≡ x
+passed-checked refused [] x p = refl
+passed-checked refused (c ∷ cs) x p = rw (p .0) (passed-checked refused cs x (p .1))
+
+-- an answer that is no refusal
+pub checked-passed : {A : Type 0} (refused : Refusal → A) (cs : List (Bool × Refusal)) (x y : A) → ((n : Refusal) → refused n ≡ y → ⊥) → checked refused cs x ≡ y
+    → Passed cs × (x ≡ y)
+checked-passed refused [] x y h q = (tt, q)
+checked-passed refused (c ∷ cs) x y h q = go (c .0) refl q (checked-passed refused cs x y h)
+  where
+    go : (b : Bool) → c .0 ≡ b → cond b (refused (c .1)) (checked refused cs x) ≡ y → (checked refused cs x ≡ y → Passed cs × (x ≡ y)) → Passed (c ∷ cs) × (x ≡ y)
+    go true r q ih = absurd (h (c .1) q)
+    go false r q ih = let t = ih q in ((r, t .0), t .1)

@@ -1,0 +1,321 @@
+-- Writes and deletes as they are asked for: every list of stores that a plan gives is fair, makes the change that was asked, and cut
+-- anywhere is recovered to the map from before or to the map from after; and the two facts that demand 3 follows from. Assumes nothing.
+use mathlib.Core.Path.{_≡_, refl, ap, sym, _∙_, subst}
+use mathlib.Core.Logic.{⊎-elim, _⊎_, inl, inr}
+use mathlib.Core.List.{List, [], _∷_, _++_}
+use mathlib.Core.Bool.{Bool, true, false, cond, not, _&&_, true≢false, false≢true}
+use mathlib.Core.Option.{Option, some, none}
+use Prim.Native.Nat.{ℕ, suc, zero, _+_, _-_, _≤_, _<_, zero-le}
+use native.Mathlib.Omega.{arith}
+use native.Mathlib.Nat.{le-trans}
+use lib.ListN.{length}
+use lib.Dec.{leb, ltb, eqb}
+use borrow.Author.Tests.{eqb-true, eq-eqb, leb-true, leb-false, ltb-false, le-ltb, le-leb, lt-leb}
+use Rattle.flash.specs.Stores.{Words, Store, apply, made, madeFirst, _then_}
+use Rattle.flash.specs.Laws.{le-or-lt, first-none, first-all, first-nil, first-then}
+use Rattle.rules.specs.declared.Area.{Area}
+use Rattle.rules.specs.declared.Refusal.{Refusal}
+use Rattle.rules.specs.declared.Refusal.the-variants.{NotFound}
+use Rattle.rules.specs.Words.{special, isLive, lastSeal}
+use Rattle.rules.specs.Walk.{entryLength, stop}
+use Rattle.rules.specs.Areas.{page, Entry, entries, twice, find, mapOf, liveWords}
+use Rattle.rules.specs.Refusals.{badHandle, badLength, isNone, sameWords, isData, holds, areaQuota, noRoom, recoverChecks, writeChecks, findChecks, Plan, refuse, list, outcomeOf}
+use Rattle.rules.specs.Lists.{bare, bareIf, deleteList, deletePlan, compact, roomPage, compactPage, append, appendCompacted, appendTo, writeList, writePlan, recoverList, recoverPlan, Request, format, recover, write, delete, planOf}
+use Rattle.rules.specs.Laws.{and-left, and-right, nor-left, nor-right, passed-checked, checked-passed}
+use Rattle.demands.specs.Terms.{Given, Fair, fair-end, Change, Proper, handleIn, newWords, Map, changed, wasCut, run, recovered, Recovers, whole, after-cut}
+use Rattle.demands.specs.Stages.{after-then, fair-append}
+use Rattle.demands.specs.Entries.{zeroed, twice-skip, once-drop, look-drop, live-skip, live-at, find-some, look}
+use Rattle.demands.specs.Mending.{shape-of, Stands, stands-by, stands-settled, stands-look, ready-sound, ready-passed, invalidate}
+use Rattle.demands.specs.Finishing.{Undamaged, mended-undamaged, Safe, recover-resumes, stands-recovered}
+use Rattle.demands.specs.Room.{room-page, compact-page, compact-exists}
+use Rattle.demands.specs.Compacting.{packed, packed-stands, packed-room, compact-fair, compact-cut}
+use Rattle.demands.specs.Appending.{Fitting, append-fair, append-stands, append-cut}
+use Rattle.demands.specs.Orders.{Planned, stores, absent, Left, before, after}
+
+-- A list of stores that turns one map into another: made whole it has, and cut anywhere it has or has not.
+pub record Changes (a : Area) (m : Map) (n : ℕ) (m′ : Map) (n′ : ℕ) (f : List ℕ) (ss : List Store) : Type 0 where
+  pub fair : Fair ss f
+  pub stands : Stands a m′ n′ (made ss f)
+  pub cut : (k : ℕ) → Safe a m n m′ n′ (madeFirst k ss f)
+
+stands-as : {a : Area} {m m′ : Map} {n n′ : ℕ} {f : List ℕ} → ((u : ℕ) → m u ≡ m′ u) → n ≤ n′ → Stands a m n f → Stands a m′ n′ f
+stands-as e l s = let k = s .live in record { given = s .given; ready = s .ready; map = λ u. s .map u ∙ e u; live = omega arith }
+
+pub stands-undamaged : {a : Area} {m : Map} {n : ℕ} {f : List ℕ} → Stands a m n f → Undamaged a f
+stands-undamaged s = mended-undamaged (stands-settled s .0)
+
+-- a flash from before, and one from after
+safe-before : {a : Area} {m m′ : Map} {n n′ : ℕ} {f : List ℕ} → Stands a m n f → Safe a m n m′ n′ f
+safe-before {a} {f = f} s = record { undamaged = stands-undamaged s; ends = inl (rw (stands-recovered a f s) s) }
+
+safe-after : {a : Area} {m m′ : Map} {n n′ : ℕ} {f : List ℕ} → Stands a m′ n′ f → Safe a m n m′ n′ f
+safe-after {a} {f = f} s = record { undamaged = stands-undamaged s; ends = inr (rw (stands-recovered a f s) s) }
+
+-- ---- handles and data
+handle-live : (h : ℕ) → badHandle h ≡ false → isLive h ≡ true
+handle-live h b = rw (nor-left (eqb h 0) (leb special h) b)
+
+handle-small : (h : ℕ) → badHandle h ≡ false → h < special
+handle-small h b = leb-false special h (nor-right (eqb h 0) (leb special h) b)
+
+same-words : (x y : List ℕ) → sameWords x y ≡ true → x ≡ y
+same-words [] [] e = refl
+same-words [] (y ∷ ys) e = absurd (false≢true e)
+same-words (x ∷ xs) [] e = absurd (false≢true e)
+same-words (x ∷ xs) (y ∷ ys) e =
+    let a = eqb-true x y (and-left (eqb x y) (sameWords xs ys) e) in
+    let b = same-words xs ys (and-right (eqb x y) (sameWords xs ys) e) in
+    cc
+
+words-same : (x : List ℕ) → sameWords x x ≡ true
+words-same [] = refl
+words-same (x ∷ xs) = rw (eq-eqb x x refl) (words-same xs)
+
+is-data : (o : Option (List ℕ)) (d : List ℕ) → isData o d ≡ true → o ≡ some d
+is-data none d e = absurd (false≢true e)
+is-data (some v) d e = ap some (same-words v d e)
+
+holds-map : (a : Area) (f : List ℕ) (h : ℕ) (d : List ℕ) → holds a f h d ≡ true → mapOf a f h ≡ some d
+unfolding holds
+holds-map a f h d e = is-data (mapOf a f h) d e
+
+map-holds : (a : Area) (f : List ℕ) (h : ℕ) (d : List ℕ) → mapOf a f h ≡ some d → holds a f h d ≡ true
+unfolding holds
+map-holds a f h d e = rw e (words-same d)
+
+no-room : (a : Area) (f : List ℕ) (h : ℕ) (d : List ℕ) → noRoom a f h d ≡ false → holds a f h d ≡ false → liveWords (entries a f) + entryLength d ≤ areaQuota a
+unfolding noRoom
+no-room a f h d e q = ltb-false (areaQuota a) (liveWords (entries a f) + entryLength d) (rw q at e)
+
+room-held : (a : Area) (f : List ℕ) (h : ℕ) (d : List ℕ) → holds a f h d ≡ true → noRoom a f h d ≡ false
+unfolding noRoom
+room-held a f h d e = rw e
+
+room-left : (a : Area) (f : List ℕ) (h : ℕ) (d : List ℕ) → liveWords (entries a f) + entryLength d ≤ areaQuota a → noRoom a f h d ≡ false
+unfolding noRoom
+room-left a f h d l = rw (le-ltb (areaQuota a) (liveWords (entries a f) + entryLength d) l) (go (not (holds a f h d)))
+  where
+    go : (b : Bool) → b && false ≡ false
+    go true = refl
+    go false = refl
+
+-- ---- a write
+module _ {a : Area} {m : Map} {n : ℕ} {f : List ℕ} (s : Stands a m n f) (h : ℕ) (d : List ℕ) (p : Proper (write h d)) where
+  abbrev m′ : Map
+  m′ = changed (write h d) m
+
+  abbrev n′ : ℕ
+  n′ = n + entryLength d
+
+  short : length d ≤ 32
+  short = ltb-false 32 (length d) (p .1)
+
+  fitting : (g : List ℕ) (i : ℕ) → i < a .pages → stop (page a g i) + entryLength d ≤ lastSeal (a .words) → Fitting a g i h d
+  fitting g i l r = record { inside = l; live = handle-live h (p .0); small = handle-small h (p .0); short = short; words = p .2; room = r }
+
+  -- to a page that has the room
+  append-changes : (i : ℕ) → roomPage a f (entryLength d) ≡ some i → Changes a m n m′ n′ f (append a h d i f)
+  append-changes i e =
+      let r = room-page a f (entryLength d) i e in
+      let t = fitting f i (r .0) (r .1) in
+      record { fair = append-fair s i h d t; stands = append-stands s i h d t; cut = append-cut s i h d t }
+
+  -- to a page compacted
+  module _ (i : ℕ) (e : compactPage a f (entryLength d) ≡ some i) where
+    inside : i < a .pages
+    inside = compact-page a f (entryLength d) i e .0
+
+    then-fits : Fitting a (packed s i inside) i h d
+    then-fits = fitting (packed s i inside) i inside (packed-room s i inside (entryLength d) (compact-page a f (entryLength d) i e .1))
+
+    then-stands : Stands a m n (packed s i inside)
+    then-stands = packed-stands s i inside
+
+    then-cut : (k : ℕ) → Safe a m n m′ n′ (madeFirst k ((compact a i then append a h d i) f) f)
+    then-cut k = rw (first-then k (compact a i) (append a h d i) f) (⊎-elim long part (le-or-lt (length (compact a i f)) k))
+      where
+        part : k < length (compact a i f) → Safe a m n m′ n′ (madeFirst (k - length (compact a i f)) (append a h d i (madeFirst k (compact a i f) f)) (madeFirst k (compact a i f) f))
+        part l =
+            let g = madeFirst k (compact a i f) f in
+            let z : k - length (compact a i f) ≡ 0 = omega arith in
+            let c = compact-cut s i inside k in
+            rw (z, first-none (append a h d i g) g)
+            (record { undamaged = c .0; ends = inl (⊎-elim (λ q. rw q s) (λ q. rw q then-stands) (c .1)) })
+
+        long : length (compact a i f) ≤ k → Safe a m n m′ n′ (madeFirst (k - length (compact a i f)) (append a h d i (madeFirst k (compact a i f) f)) (madeFirst k (compact a i f) f))
+        long l = rw (first-all k (compact a i f) f l) (append-cut then-stands i h d then-fits (k - length (compact a i f)))
+
+    compact-changes : Changes a m n m′ n′ f ((compact a i then append a h d i) f)
+    compact-changes = record {
+      fair = fair-append (compact-fair s i inside) (append-fair then-stands i h d then-fits);
+      stands = rw (after-then (compact a i) (append a h d i) f) (append-stands then-stands i h d then-fits);
+      cut = then-cut;
+    }
+
+  -- data that is held already
+  held-changes : holds a f h d ≡ true → Changes a m n m′ n′ f []
+  held-changes e = record { fair = fair-end; stands = t; cut = λ k. rw (first-nil k f) (safe-after t) }
+    where
+      same : (u : ℕ) → m u ≡ m′ u
+      same u = go (eqb u h) refl
+        where
+          go : (b : Bool) → eqb u h ≡ b → m u ≡ m′ u
+          go true q = rw (q, eqb-true u h q) (sym (s .map h) ∙ holds-map a f h d e)
+          go false q = rw q
+
+      t : Stands a m′ n′ f
+      t = stands-as same (omega arith) s
+
+  pub write-changes : noRoom a f h d ≡ false → Changes a m n m′ n′ f (writeList a h d f)
+  write-changes q = go (holds a f h d) refl
+    where
+      compacted : holds a f h d ≡ false → (o : Option ℕ) → compactPage a f (entryLength d) ≡ o → Changes a m n m′ n′ f (appendCompacted a h d o f)
+      compacted z none e = let l = short in absurd (compact-exists a f (entryLength d) (shape-of (s .given)) (omega arith) (no-room a f h d q z) e)
+      compacted z (some i) e = compact-changes i e
+
+      appended : holds a f h d ≡ false → (o : Option ℕ) → roomPage a f (entryLength d) ≡ o → Changes a m n m′ n′ f (appendTo a h d o f)
+      appended z none e = compacted z (compactPage a f (entryLength d)) refl
+      appended z (some i) e = append-changes i e
+
+      go : (b : Bool) → holds a f h d ≡ b → Changes a m n m′ n′ f (writeList a h d f)
+      go true e = rw e (held-changes e)
+      go false e = rw e (appended e (roomPage a f (entryLength d)) refl)
+
+  pub write-planned : noRoom a f h d ≡ false → writePlan a h d f ≡ list (writeList a h d f)
+  write-planned q =
+      let g = s .given in
+      passed-checked refuse (writeChecks a f h d) (list (writeList a h d f)) (g .right, (ready-sound a f g (s .ready), (ready-passed a f (s .ready), (p .0, (p .1, (q, tt))))))
+
+-- ---- a delete
+module _ {a : Area} {m : Map} {n : ℕ} {f : List ℕ} (s : Stands a m n f) (h : ℕ) where
+  dropped : (p : List Entry) (e : Entry) (y : List Entry) → entries a f ≡ p ++ e ∷ y → e .handle ≡ h
+      → Fair (bare e ∷ []) f × Stands a (changed (delete h) m) n (apply (bare e) f)
+  dropped p e y is mine =
+      let v = invalidate p e y (stands-settled s .0) is in
+      let o : twice (p ++ e ∷ y) ≡ false = rw is at (stands-settled s .1) in
+      let l : liveWords (p ++ e ∷ y) ≤ n = rw is at (s .live) in
+      let k = live-at p e y in (
+        v .fair,
+        stands-by (p ++ zeroed e ∷ y) (v .settled) (v .entries) (twice-skip p e y ∙ once-drop p e y o)
+            (λ u. look-drop u p e y o ∙ ap (λ (x : ℕ). cond (eqb u x) none (look u (p ++ e ∷ y))) mine ∙ ap (λ (x : List Entry). cond (eqb u h) none (look u x)) (sym is)
+            ∙ ap (λ (x : Option (List ℕ)). cond (eqb u h) none x) (stands-look s u)) (rw (live-skip p e y) (omega arith)),
+      )
+
+  delete-changes : (e : Entry) → find h (entries a f) ≡ some e → Changes a m n (changed (delete h) m) n f (bare e ∷ [])
+  delete-changes e q = record { fair = t .0; stands = t .1; cut = cut }
+    where
+      t : Fair (bare e ∷ []) f × Stands a (changed (delete h) m) n (apply (bare e) f)
+      t = let w = find-some h (entries a f) e q in dropped (w .0) e (w .1) (w .2) (w .3)
+
+      cut : (k : ℕ) → Safe a m n (changed (delete h) m) n (madeFirst k (bare e ∷ []) f)
+      cut zero = rw (first-none (bare e ∷ []) f) (safe-before s)
+      cut (suc k) = rw (first-all (suc k) (bare e ∷ []) f (omega arith)) (safe-after (t .1))
+
+-- ---- either, from its plan
+refuse-list : (c : Refusal) (ss : List Store) → refuse c ≡ list ss → ⊥
+refuse-list c ss e = let z : _≡_ {A = ℕ} 0 1 = cc in omega arith
+
+list-same : (ss tt : List Store) → list ss ≡ list tt → ss ≡ tt
+list-same ss tt e = cc
+
+some-found : (o : Option Entry) → isNone o ≡ false → (e : Entry) × (o ≡ some e)
+some-found none e = absurd (true≢false e)
+some-found (some c) e = (c, refl)
+
+-- the store of a delete
+pub delete-list : (a : Area) (f : List ℕ) (h : ℕ) (ss : List Store) → deletePlan a h f ≡ list ss → (e : Entry) × (find h (entries a f) ≡ some e) × (ss ≡ bare e ∷ [])
+delete-list a f h ss e =
+    let k = checked-passed refuse (findChecks a f h) (list (deleteList a h f)) (list ss) (λ x. refuse-list x ss) e in
+    let w = some-found (find h (entries a f)) (k .0 .1 .1 .1 .1 .0) in
+    (w .0, w .1, sym (list-same (deleteList a h f) ss (k .1)) ∙ ap bareIf (w .1))
+
+pub changes : {a : Area} {m : Map} {n : ℕ} {f : List ℕ} → Stands a m n f → (r : Request) → Change r → (ss : List Store) → planOf a r f ≡ list ss
+    → Changes a m n (changed r m) (n + newWords r) f ss
+changes s format c ss e = absurd c
+changes s recover c ss e = absurd c
+changes {a} {m} {n} {f} s (write h d) c ss e =
+    let k = checked-passed refuse (writeChecks a f h d) (list (writeList a h d f)) (list ss) (λ x. refuse-list x ss) e in
+    let t = k .0 .1 .1 .1 in
+    subst (λ (u : List Store). Changes a m n (changed (write h d) m) (n + entryLength d) f u) (list-same (writeList a h d f) ss (k .1))
+    (write-changes s h d (t .0, t .1 .0, c) (t .1 .1 .0))
+changes {a} {m} {n} {f} s (delete h) c ss e =
+    let w = delete-list a f h ss e in
+    let z : n + 0 ≡ n = omega arith in
+    rw z (subst (λ (u : List Store). Changes a m n (changed (delete h) m) n f u) (sym (w .2)) (delete-changes s h (w .0) (w .1)))
+
+-- with any power
+pub run-safe : {a : Area} {m : Map} {n : ℕ} {f : List ℕ} → Stands a m n f → (r : Request) → Change r → (k : ℕ) → Safe a m n (changed r m) (n + newWords r) (run a r k f .flash)
+run-safe {a} {m} {n} {f} s r c k = go (planOf a r f) refl
+  where
+    go : (p : Plan) → planOf a r f ≡ p → Safe a m n (changed r m) (n + newWords r) (outcomeOf p k f .flash)
+    go (refuse x) e = safe-before s
+    go (list ss) e = changes s r c ss e .cut k
+
+-- ---- recoveries, cut any number of times
+recover-planned : {a : Area} {f : List ℕ} → Undamaged a f → recoverPlan a f ≡ list (recoverList a f)
+recover-planned {a} {f} u = passed-checked refuse (recoverChecks a f) (list (recoverList a f)) (u .given .right, (u .sound, tt))
+
+uncut-enough : (ss : List Store) (k : ℕ) (f : List ℕ) → wasCut (outcomeOf (list ss) k f .answer) ≡ false → length ss ≤ k
+uncut-enough ss k f e = ⊎-elim (λ l. l) (λ l. absurd (true≢false (rw (lt-leb (length ss) k l) at e))) (le-or-lt (length ss) k)
+
+pub recovers-ends : {a : Area} {f g : List ℕ} → Undamaged a f → Recovers a f g → g ≡ recovered a f
+recovers-ends {a} {f} u (whole k e) =
+    let p = recover-planned u in
+    ap (λ (x : Plan). outcomeOf x k f .flash) p ∙ first-all k (recoverList a f) f (uncut-enough (recoverList a f) k f (rw p at e))
+recovers-ends {a} {f} {g} u (after-cut k e t) =
+    let p : run a recover k f .flash ≡ madeFirst k (recoverList a f) f = ap (λ (x : Plan). outcomeOf x k f .flash) (recover-planned u) in
+    let r = recover-resumes a in
+    recovers-ends (subst (Undamaged a) (sym p) (r .keeps f u k)) t ∙ ap (recovered a) p ∙ r .again f u k
+
+-- ---- what demand 3 follows from
+module _ (a : Area) where
+  proper-change : (r : Request) → Proper r → Change r
+  proper-change format p = absurd p
+  proper-change recover p = absurd p
+  proper-change (write h d) p = p .2
+  proper-change (delete h) p = tt
+
+  pub plans : (r : Request) (m : Map) (n : ℕ) (f : List ℕ) → Proper r → Stands a m n f → n + newWords r ≤ areaQuota a → Planned a r m n f
+  plans format m n f p s q = absurd p
+  plans recover m n f p s q = absurd p
+  plans (write h d) m n f p s q =
+      let l = s .live in
+      let z = room-left a f h d (omega arith) in
+      stores (writeList a h d f) (write-planned s h d p z) (write-changes s h d p z .stands)
+  plans (delete h) m n f p s q = go (find h (entries a f)) refl
+    where
+      passed : (o : Option Entry) → find h (entries a f) ≡ o → isNone o ≡ false → deletePlan a h f ≡ list (bareIf o)
+      passed o e z =
+          let g = s .given in
+          passed-checked refuse (findChecks a f h) (list (deleteList a h f)) (g .right, (ready-sound a f g (s .ready), (ready-passed a f (s .ready), (p, (ap isNone e ∙ z, tt)))))
+          ∙ ap (λ (x : Option Entry). list (bareIf x)) e
+
+      go : (o : Option Entry) → find h (entries a f) ≡ o → Planned a (delete h) m n f
+      go none e =
+          let g = s .given in
+          absent (rw (g .right, ready-sound a f g (s .ready), ready-passed a f (s .ready), p, e)) refl (sym (stands-look s h) ∙ rw e)
+      go (some c) e =
+          let t = passed (some c) e refl in
+          stores (bare c ∷ []) t (changes s (delete h) tt (bare c ∷ []) t .stands)
+
+  -- asked again, a write that has been made has nothing to do
+  write-again : (h : ℕ) (d : List ℕ) (m : Map) {n : ℕ} (g : List ℕ) → Proper (write h d) → Stands a (changed (write h d) m) n g → writePlan a h d g ≡ list []
+  write-again h d m g p t =
+      let k : mapOf a g h ≡ some d = t .map h ∙ rw (eq-eqb h h refl) in
+      let e = map-holds a g h d k in
+      write-planned t h d p (room-held a g h d e) ∙ rw e
+
+  pub leaves : (r : Request) (m : Map) (n : ℕ) (f : List ℕ) → Proper r → Stands a m n f → n + newWords r ≤ areaQuota a → (ss : List Store) → planOf a r f ≡ list ss
+      → (k : ℕ) → k < length ss → (g : List ℕ) → Recovers a (madeFirst k ss f) g → Left a r m n g
+  leaves format m n f p s q ss e k l g t = absurd p
+  leaves recover m n f p s q ss e k l g t = absurd p
+  leaves (write h d) m n f p s q ss e k l g t =
+      let c = changes s (write h d) (p .2) ss e .cut k in
+      let w = recovers-ends (c .undamaged) t in
+      ⊎-elim (λ x. before (rw w x)) (λ x. let y : Stands a (changed (write h d) m) (n + entryLength d) g = rw w x in after y (write-again h d m g p y)) (c .ends)
+  leaves (delete h) m n f p s q ss e k l g t =
+      let w = delete-list a f h ss e in
+      let o : length ss ≡ 1 = ap length (w .2) in
+      let z : k ≡ 0 = omega arith in
+      let c : madeFirst k ss f ≡ f = rw z (first-none ss f) in
+      before (rw (recovers-ends (stands-undamaged s) (subst (λ (u : List ℕ). Recovers a u g) c t), stands-recovered a f s) s)
