@@ -24,7 +24,7 @@ use Rattle.demands.specs.Runs.{same-or-not, words-left, words-right, wor
 use Rattle.demands.specs.Entries.{look, look-kept, twice-kept, live-append, live-kept, live-same}
 use Rattle.demands.specs.Layout.{before, behind, entries-split, entries-only}
 use Rattle.demands.specs.Mending.{given-made, shape-of, free-blank, Settled, Stands, stands-by, stands-settled, stands-look, mended-only, settled-page, mendAndDrop}
-use Rattle.demands.specs.Finishing.{meta-low, copied, part, Undamaged, undamaged-by, mended-undamaged, Restored, restored, finish-resumes, finish-fair, recover-mended, ready-rests}
+use Rattle.demands.specs.Finishing.{meta-low, copied, part, Undamaged, undamaged-by, mended-undamaged, Restored, restored, finish-resumes, finish-fair, recovered-by}
 use Rattle.demands.specs.Room.{copy-length}
 
 -- ---- R
@@ -78,13 +78,6 @@ length-live (e ∷ es) = go (isLive (e .handle)) refl (length-live es)
     go : (b : Bool) → isLive (e .handle) ≡ b → length (codes (keepLive es)) ≤ length (codes es) → length (codes (keepLive (e ∷ es))) ≤ length (codes (e ∷ es))
     go true q ih = rw q (simp length-append (omega arith))
     go false q ih = rw q (simp length-append (omega arith))
-
--- a ready flash that step (a) ends in is what the recovery ends in
-pub recovered-by : {a : Area} {m : Map} {n : ℕ} (g p : List ℕ) → after (finish a) g ≡ p → Stands a m n p → recovered a g ≡ p
-recovered-by {a} g p e s =
-    let t = stands-settled s in
-    let r = sym (recover-mended a p (t .0)) ∙ ready-rests a p (s .given) (s .ready) in
-    after-then (finish a) (mendAndDrop a) g ∙ ap (after (mendAndDrop a)) e ∙ ap (λ (u : List Store). made u p) r
 
 module _ {a : Area} {m : Map} {n : ℕ} {f : List ℕ} (s : Stands a m n f) (i : ℕ) (h : i < a .pages) where
   abbrev pub kept : List Item

@@ -11,5 +11,6 @@ pub mod Room
 pub mod Compacting
 pub mod Appending
 pub mod Reading
-pub mod Orders
 pub mod Requests
+pub mod Orders
+pub mod Demands

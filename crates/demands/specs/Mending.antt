@@ -7,7 +7,7 @@ use mathlib.Core.Bool.{Bool, true, false, cond, not, _&&_, and-false, false≢tr
 use mathlib.Core.Option.{Option, some, none}
 use Prim.Native.Nat.{ℕ, suc, zero, _+_, _-_, _≤_, _<_, zero-le}
 use native.Mathlib.Omega.{arith}
-use native.Mathlib.Nat.{eq-or-lt-of-le, le-of-suc-le-suc}
+use native.Mathlib.Nat.{eq-or-lt-of-le, le-of-suc-le-suc, le-refl}
 use lib.ListN.{length, getD, length-append}
 use lib.Bits.{bitAnd}
 use lib.Dec.{eqb, ltb}
@@ -120,6 +120,9 @@ pub stands-by : {a : Area} {m : Map} {n : ℕ} {f : List ℕ} (es : List Entry) 
     → liveWords es ≤ n → Stands a m n f
 unfolding mapOf
 stands-by es s e t q l = record { given = s .given; ready = settled-ready s (rw e t); map = λ u. rw e (q u); live = rw e l }
+
+pub ready-stands : {a : Area} {f : List ℕ} → Given a f → ready a f ≡ true → Stands a (mapOf a f) (liveWords (entries a f)) f
+ready-stands {a} {f} g r = record { given = g; ready = r; map = λ u. refl; live = le-refl (liveWords (entries a f)) }
 
 pub stands-settled : {a : Area} {m : Map} {n : ℕ} {f : List ℕ} → Stands a m n f → Settled a f × (twice (entries a f) ≡ false)
 stands-settled s = ready-settled (s .given) (s .ready)

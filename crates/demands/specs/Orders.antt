@@ -1,6 +1,5 @@
--- Demand 3, from two facts about single requests: requests on handles that all differ, each cut, recovered and asked again any number of
--- times, leave an area that stands with all changes made; their answers are right; and their order does not matter. The two facts are
--- parameters, to be supplied. Assumes nothing.
+-- Demand 3: requests on handles that all differ, each cut, recovered and asked again any number of times, leave an area that stands with
+-- all changes made; their answers are right; and their order does not matter. Assumes nothing.
 use mathlib.Core.Path.{_≡_, refl, ap, ap₂, sym, _∙_, fun-ext, subst}
 use mathlib.Core.List.{List, [], _∷_, List·Permᴰ, List·Permᴰ·nil, List·Permᴰ·cons, List·Permᴰ·swap, List·Permᴰ·trans}
 use mathlib.Core.Bool.{Bool, true, false, true≢false, false≢true}
@@ -8,6 +7,7 @@ use mathlib.Core.Option.{none}
 use mathlib.Core.Logic.{_≢_, Ne·symm, ⊎-elim}
 use Prim.Native.Nat.{ℕ, _+_, _≤_, _<_, zero-le}
 use native.Mathlib.Omega.{arith}
+use native.Mathlib.Nat.{le-refl}
 use lib.ListN.{length}
 use lib.Dec.{eqb}
 use borrow.Author.Tests.{eqb-true, ne-eqb, le-leb, lt-leb}
@@ -21,17 +21,7 @@ use Rattle.rules.specs.Refusals.{areaQuota, refuse, list, outcomeOf}
 use Rattle.rules.specs.Lists.{Request, delete, planOf}
 use Rattle.demands.specs.Terms.{Proper, handleIn, dataIn, newWords, Map, changed, changedAll, newWordsAll, wasCut, run, Recovers, Carried, uncut, asked-again, CarriedAll, no-more, and-then, ProperAll, Others, AllDiffer, Fine, FineAll}
 use Rattle.demands.specs.Mending.{Stands}
-
--- what a request is to do on an area that stands: make stores, all of which leave the area with the change made; or refuse, for a
--- delete of what is not there
-pub data Planned (a : Area) (r : Request) (m : Map) (n : ℕ) (f : List ℕ) : Type 0 where
-  stores : (ss : List Store) → planOf a r f ≡ list ss → Stands a (changed r m) (n + newWords r) (made ss f) → Planned a r m n f
-  absent : planOf a r f ≡ refuse NotFound → r ≡ delete (handleIn r) → m (handleIn r) ≡ none → Planned a r m n f
-
--- what a cut request leaves after recovery: all as before; or the change made, and asked again the request has nothing to do
-pub data Left (a : Area) (r : Request) (m : Map) (n : ℕ) (g : List ℕ) : Type 0 where
-  before : Stands a m n g → Left a r m n g
-  after : Stands a (changed r m) (n + newWords r) g → planOf a r g ≡ list [] → Left a r m n g
+use Rattle.demands.specs.Requests.{stands-as, uncut-list, cut-list, Planned, stores, absent, Left, before, after, plans, leaves}
 
 -- ---- changes of maps
 unchanged : (r : Request) (m : Map) (u : ℕ) → u ≢ handleIn r → changed r m u ≡ m u
@@ -94,19 +84,6 @@ all-changes _ _ (List·Permᴰ·swap {a = a} {b = b} {l = l} e d) o m u =
 all-changes _ _ (List·Permᴰ·trans {l₁ = l₁} {l₂ = l₂} {l₃ = l₃} p q) o m u = all-changes l₁ l₂ p o m u ∙ all-changes l₂ l₃ q (perm-differ p o) m u
 
 -- ---- answers
--- a list is cut just when it is longer than the power lasts
-uncut-list : (ss : List Store) (k : ℕ) (f : List ℕ) → wasCut (outcomeOf (list ss) k f .answer) ≡ false → length ss ≤ k
-uncut-list ss k f c = ⊎-elim (λ h. h) short (le-or-lt (length ss) k)
-  where
-    short : k < length ss → length ss ≤ k
-    short h = absurd (true≢false (rw (lt-leb (length ss) k h) at c))
-
-cut-list : (ss : List Store) (k : ℕ) (f : List ℕ) → wasCut (outcomeOf (list ss) k f .answer) ≡ true → k < length ss
-cut-list ss k f c = ⊎-elim enough (λ h. h) (le-or-lt (length ss) k)
-  where
-    enough : length ss ≤ k → k < length ss
-    enough h = absurd (false≢true (rw (le-leb (length ss) k h) at c))
-
 -- a request that has nothing to do is never cut
 nothing-done : {a : Area} {r : Request} {f g : List ℕ} {x : Answer} → planOf a r f ≡ list [] → Carried a r f x g → (g ≡ f) × (x ≡ Answer.Done 0)
 nothing-done e (uncut {f} k c) = rw e (first-nil k f, rw (le-leb 0 k zero-le) refl)
@@ -142,10 +119,7 @@ absent-stands a r m n f s e d =
       live = omega arith;
     }
 
-module _ (a : Area) (plans : (r : Request) (m : Map) (n : ℕ) (f : List ℕ) → Proper r → Stands a m n f → n + newWords r ≤ areaQuota a
-    → Planned a r m n f) (leaves : (r : Request) (m : Map) (n : ℕ) (f : List ℕ) → Proper r → Stands a m n f → n + newWords r ≤ areaQuota a
-    → (ss : List Store) → planOf a r f ≡ list ss → (k : ℕ) → k < length ss → (g : List ℕ) → Recovers a (madeFirst k ss f) g
-    → Left a r m n g) where
+module _ (a : Area) where
   -- a request that is not cut makes its change
   uncut-stands : (r : Request) (m : Map) (n : ℕ) (f : List ℕ) → Stands a m n f → Planned a r m n f → (k : ℕ) → wasCut (run a r k f .answer) ≡ false
       → Stands a (changed r m) (n + newWords r) (run a r k f .flash) × Fine m r (run a r k f .answer)
@@ -155,15 +129,15 @@ module _ (a : Area) (plans : (r : Request) (m : Map) (n : ℕ) (f : List ℕ) �
   -- a request that is cut, and then recovered
   cut-leaves : (r : Request) (m : Map) (n : ℕ) (f : List ℕ) → Proper r → Stands a m n f → n + newWords r ≤ areaQuota a → Planned a r m n f
       → (k : ℕ) → wasCut (run a r k f .answer) ≡ true → (g : List ℕ) → Recovers a (run a r k f .flash) g → Left a r m n g
-  cut-leaves r m n f p s q (stores ss e t) k c g v = leaves r m n f p s q ss e k (cut-list ss k f (rw e at c)) g (rw e at v)
+  cut-leaves r m n f p s q (stores ss e t) k c g v = leaves a r m n f p s q ss e k (cut-list ss k f (rw e at c)) g (rw e at v)
   cut-leaves r m n f p s q (absent e d z) k c g v = absurd (false≢true (rw e at c))
 
   -- a request, however often it is cut, recovered and asked again
   pub carried : (r : Request) (m : Map) (n : ℕ) (f : List ℕ) → Proper r → Stands a m n f → n + newWords r ≤ areaQuota a
       → (x : Answer) (g : List ℕ) → Carried a r f x g → Stands a (changed r m) (n + newWords r) g × Fine m r x
-  carried r m n f p s q _ _ (uncut k c) = uncut-stands r m n f s (plans r m n f p s q) k c
+  carried r m n f p s q _ _ (uncut k c) = uncut-stands r m n f s (plans a r m n f p s q) k c
   carried r m n f p s q x g (asked-again {g = h} k c v t) =
-      left (cut-leaves r m n f p s q (plans r m n f p s q) k c h v) (λ y. carried r m n h p y q x g t)
+      left (cut-leaves r m n f p s q (plans a r m n f p s q) k c h v) (λ y. carried r m n h p y q x g t)
     where
       left : Left a r m n h → (Stands a m n h → Stands a (changed r m) (n + newWords r) g × Fine m r x)
           → Stands a (changed r m) (n + newWords r) g × Fine m r x
@@ -181,11 +155,19 @@ module _ (a : Area) (plans : (r : Request) (m : Map) (n : ℕ) (f : List ℕ) �
       let z = carried-all rs (changed r m) (n + newWords r) g (p .1) (o .1) (y .0) (omega arith) xs h cs in
       rw e (z .0, (y .1, fine-all-before r m rs xs (o .0) (z .1)))
 
-  -- the same requests in two orders, each cut as it may be, leave the same map
-  pub any-order : (rs qs : List Request) → List·Permᴰ rs qs → ProperAll rs → AllDiffer rs → (m : Map) (n : ℕ) (f : List ℕ) → Stands a m n f
-      → n + newWordsAll rs ≤ areaQuota a → (xs ys : List Answer) (g k : List ℕ) → CarriedAll a rs f xs g → CarriedAll a qs f ys k → (u : ℕ)
-      → mapOf a g u ≡ mapOf a k u
-  any-order rs qs t p o m n f s q xs ys g k c d u =
-      carried-all rs m n f p o s q xs g c .0 .map u
-      ∙ all-changes rs qs t o m u
-      ∙ sym (carried-all qs m n f (perm-proper t p) (perm-differ t o) s (rw (perm-words t) at q) ys k d .0 .map u)
+  -- and in another order
+  pub reordered : (rs qs : List Request) → List·Permᴰ rs qs → (m : Map) (n : ℕ) (f : List ℕ) → ProperAll rs → AllDiffer rs → Stands a m n f
+      → n + newWordsAll rs ≤ areaQuota a → (xs : List Answer) (g : List ℕ) → CarriedAll a qs f xs g
+      → Stands a (changedAll rs m) (n + newWordsAll rs) g × FineAll m qs xs
+  reordered rs qs t m n f p o s q xs g c =
+      let w = perm-words t in
+      let y = carried-all qs m n f (perm-proper t p) (perm-differ t o) s (omega arith) xs g c in
+      (stands-as (λ u. sym (all-changes rs qs t o m u)) (omega arith) (y .0), y .1)
+
+  -- with power enough a request is carried through at once
+  pub carry-exists : (r : Request) (m : Map) (n : ℕ) (f : List ℕ) → Proper r → Stands a m n f → n + newWords r ≤ areaQuota a → (x : Answer) × (g : List ℕ) × Carried a r f x g
+  carry-exists r m n f p s q = go (plans a r m n f p s q)
+    where
+      go : Planned a r m n f → (x : Answer) × (g : List ℕ) × Carried a r f x g
+      go (stores ss e t) = (run a r (length ss) f .answer, run a r (length ss) f .flash, uncut {f = f} (length ss) (rw (e, le-leb (length ss) (length ss) (le-refl (length ss)))))
+      go (absent e d z) = (run a r 0 f .answer, run a r 0 f .flash, uncut {f = f} 0 (rw e))

@@ -5,10 +5,10 @@ use mathlib.Core.Logic.{⊎-elim, _⊎_, inl, inr}
 use mathlib.Core.List.{List, [], _∷_, _++_}
 use mathlib.Core.Bool.{Bool, true, false, cond, not, _&&_, true≢false, false≢true}
 use mathlib.Core.Option.{Option, some, none}
-use Prim.Native.Nat.{ℕ, suc, zero, _+_, _-_, _≤_, _<_, zero-le}
+use Prim.Native.Nat.{ℕ, suc, zero, _+_, _-_, _*_, _≤_, _<_, zero-le}
 use native.Mathlib.Omega.{arith}
-use native.Mathlib.Nat.{le-trans}
-use lib.ListN.{length}
+use native.Mathlib.Nat.{le-refl}
+use lib.ListN.{length, length-append}
 use lib.Dec.{leb, ltb, eqb}
 use borrow.Author.Tests.{eqb-true, eq-eqb, leb-true, leb-false, ltb-false, le-ltb, le-leb, lt-leb}
 use Rattle.flash.specs.Stores.{Words, Store, apply, made, madeFirst, _then_}
@@ -18,19 +18,18 @@ use Rattle.rules.specs.declared.Refusal.{Refusal}
 use Rattle.rules.specs.declared.Refusal.the-variants.{NotFound}
 use Rattle.rules.specs.Words.{special, isLive, lastSeal}
 use Rattle.rules.specs.Walk.{entryLength, stop}
-use Rattle.rules.specs.Areas.{page, Entry, entries, twice, find, mapOf, liveWords}
-use Rattle.rules.specs.Refusals.{badHandle, badLength, isNone, sameWords, isData, holds, areaQuota, noRoom, recoverChecks, writeChecks, findChecks, Plan, refuse, list, outcomeOf}
+use Rattle.rules.specs.Areas.{page, Entry, pageEntries, entries, twice, find, dataOf, mapOf, liveWords, ready}
+use Rattle.rules.specs.Refusals.{checked, badHandle, badLength, isNone, sameWords, isData, holds, areaQuota, noRoom, recoverChecks, writeChecks, findChecks, Plan, refuse, list, outcomeOf}
 use Rattle.rules.specs.Lists.{bare, bareIf, deleteList, deletePlan, compact, roomPage, compactPage, append, appendCompacted, appendTo, writeList, writePlan, recoverList, recoverPlan, Request, format, recover, write, delete, planOf}
-use Rattle.rules.specs.Laws.{and-left, and-right, nor-left, nor-right, passed-checked, checked-passed}
-use Rattle.demands.specs.Terms.{Given, Fair, fair-end, Change, Proper, handleIn, newWords, Map, changed, wasCut, run, recovered, Recovers, whole, after-cut}
+use Rattle.rules.specs.Laws.{and-left, and-right, nor-left, nor-right, Passed, passed-checked, checked-passed}
+use Rattle.demands.specs.Terms.{Given, Fair, fair-end, appendStores, WriteStores, held, appended, compacted, Change, Proper, handleIn, newWords, Map, changed, wasCut, run, recovered, Recovers, whole, after-cut}
 use Rattle.demands.specs.Stages.{after-then, fair-append}
 use Rattle.demands.specs.Entries.{zeroed, twice-skip, once-drop, look-drop, live-skip, live-at, find-some, look}
-use Rattle.demands.specs.Mending.{shape-of, Stands, stands-by, stands-settled, stands-look, ready-sound, ready-passed, invalidate}
+use Rattle.demands.specs.Mending.{shape-of, Stands, stands-by, stands-settled, stands-look, ready-sound, ready-passed, passed-ready, invalidate}
 use Rattle.demands.specs.Finishing.{Undamaged, mended-undamaged, Safe, recover-resumes, stands-recovered}
-use Rattle.demands.specs.Room.{room-page, compact-page, compact-exists}
+use Rattle.demands.specs.Room.{compact-length, append-length, room-page, compact-page, compact-exists}
 use Rattle.demands.specs.Compacting.{packed, packed-stands, packed-room, compact-fair, compact-cut}
 use Rattle.demands.specs.Appending.{Fitting, append-fair, append-stands, append-cut}
-use Rattle.demands.specs.Orders.{Planned, stores, absent, Left, before, after}
 
 -- A list of stores that turns one map into another: made whole it has, and cut anywhere it has or has not.
 pub record Changes (a : Area) (m : Map) (n : ℕ) (m′ : Map) (n′ : ℕ) (f : List ℕ) (ss : List Store) : Type 0 where
@@ -38,7 +37,7 @@ pub record Changes (a : Area) (m : Map) (n : ℕ) (m′ : Map) (n′ : ℕ) (f :
   pub stands : Stands a m′ n′ (made ss f)
   pub cut : (k : ℕ) → Safe a m n m′ n′ (madeFirst k ss f)
 
-stands-as : {a : Area} {m m′ : Map} {n n′ : ℕ} {f : List ℕ} → ((u : ℕ) → m u ≡ m′ u) → n ≤ n′ → Stands a m n f → Stands a m′ n′ f
+pub stands-as : {a : Area} {m m′ : Map} {n n′ : ℕ} {f : List ℕ} → ((u : ℕ) → m u ≡ m′ u) → n ≤ n′ → Stands a m n f → Stands a m′ n′ f
 stands-as e l s = let k = s .live in record { given = s .given; ready = s .ready; map = λ u. s .map u ∙ e u; live = omega arith }
 
 pub stands-undamaged : {a : Area} {m : Map} {n : ℕ} {f : List ℕ} → Stands a m n f → Undamaged a f
@@ -98,6 +97,10 @@ room-left a f h d l = rw (le-ltb (areaQuota a) (liveWords (entries a f) + entryL
     go : (b : Bool) → b && false ≡ false
     go true = refl
     go false = refl
+
+most : (b : Bool) → cond b 2 3 ≤ 3
+most true = omega arith
+most false = omega arith
 
 -- ---- a write
 module _ {a : Area} {m : Map} {n : ℕ} {f : List ℕ} (s : Stands a m n f) (h : ℕ) (d : List ℕ) (p : Proper (write h d)) where
@@ -169,17 +172,56 @@ module _ {a : Area} {m : Map} {n : ℕ} {f : List ℕ} (s : Stands a m n f) (h :
   pub write-changes : noRoom a f h d ≡ false → Changes a m n m′ n′ f (writeList a h d f)
   write-changes q = go (holds a f h d) refl
     where
-      compacted : holds a f h d ≡ false → (o : Option ℕ) → compactPage a f (entryLength d) ≡ o → Changes a m n m′ n′ f (appendCompacted a h d o f)
-      compacted z none e = let l = short in absurd (compact-exists a f (entryLength d) (shape-of (s .given)) (omega arith) (no-room a f h d q z) e)
-      compacted z (some i) e = compact-changes i e
+      by-compaction : holds a f h d ≡ false → (o : Option ℕ) → compactPage a f (entryLength d) ≡ o → Changes a m n m′ n′ f (appendCompacted a h d o f)
+      by-compaction z none e = let l = short in absurd (compact-exists a f (entryLength d) (shape-of (s .given)) (omega arith) (no-room a f h d q z) e)
+      by-compaction z (some i) e = compact-changes i e
 
-      appended : holds a f h d ≡ false → (o : Option ℕ) → roomPage a f (entryLength d) ≡ o → Changes a m n m′ n′ f (appendTo a h d o f)
-      appended z none e = compacted z (compactPage a f (entryLength d)) refl
-      appended z (some i) e = append-changes i e
+      by-append : holds a f h d ≡ false → (o : Option ℕ) → roomPage a f (entryLength d) ≡ o → Changes a m n m′ n′ f (appendTo a h d o f)
+      by-append z none e = by-compaction z (compactPage a f (entryLength d)) refl
+      by-append z (some i) e = append-changes i e
 
       go : (b : Bool) → holds a f h d ≡ b → Changes a m n m′ n′ f (writeList a h d f)
       go true e = rw e (held-changes e)
-      go false e = rw e (appended e (roomPage a f (entryLength d)) refl)
+      go false e = rw e (by-append e (roomPage a f (entryLength d)) refl)
+
+  -- how many stores
+  old-stores : (g : List ℕ) {m₁ : Map} {n₁ : ℕ} → Stands a m₁ n₁ g → m₁ h ≡ m h → length d + 2 + length (bareIf (find h (entries a g))) ≡ appendStores a f h d
+  old-stores g t e = go (find h (entries a g)) (find h (entries a f)) (stands-look t h ∙ e ∙ sym (stands-look s h))
+    where
+      go : (x y : Option Entry) → dataOf x ≡ dataOf y → length d + 2 + length (bareIf x) ≡ length d + cond (isNone y) 2 3
+      go none none q = omega arith
+      go none (some y) q = absurd (let z : _≡_ {A = ℕ} 0 1 = cc in omega arith)
+      go (some x) none q = absurd (let z : _≡_ {A = ℕ} 0 1 = cc in omega arith)
+      go (some x) (some y) q = omega arith
+
+  pub write-counts : noRoom a f h d ≡ false → WriteStores a f h d (length (writeList a h d f))
+  write-counts q = go (holds a f h d) refl
+    where
+      compact-counts : holds a f h d ≡ false → roomPage a f (entryLength d) ≡ none → (o : Option ℕ) → compactPage a f (entryLength d) ≡ o
+          → WriteStores a f h d (length (appendCompacted a h d o f))
+      compact-counts z r none e = let l = short in absurd (compact-exists a f (entryLength d) (shape-of (s .given)) (omega arith) (no-room a f h d q z) e)
+      compact-counts z r (some i) e =
+          let k : length (appendCompacted a h d (some i) f) ≡ 2 * liveWords (pageEntries a f i) + 8 + appendStores a f h d =
+          length-append (compact a i f) (append a h d i (packed s i (inside i e)))
+          ∙ rw (compact-length a i f, append-length a h d i (packed s i (inside i e)), old-stores (packed s i (inside i e)) (then-stands i e) refl) in
+          subst (WriteStores a f h d) (sym k) (compacted z r i e)
+
+      append-counts : holds a f h d ≡ false → (o : Option ℕ) → roomPage a f (entryLength d) ≡ o → WriteStores a f h d (length (appendTo a h d o f))
+      append-counts z none e = compact-counts z e (compactPage a f (entryLength d)) refl
+      append-counts z (some i) e = subst (WriteStores a f h d) (sym (append-length a h d i f ∙ old-stores f s refl)) (appended z i e)
+
+      go : (b : Bool) → holds a f h d ≡ b → WriteStores a f h d (length (writeList a h d f))
+      go true e = rw e (held e)
+      go false e = rw e (append-counts e (roomPage a f (entryLength d)) refl)
+
+  pub write-most : (k : ℕ) → WriteStores a f h d k → k ≤ 2 * a .words + 3
+  write-most k (held e) = omega arith
+  write-most k (appended z i e) = let w = shape-of (s .given) .wide in let l = short in let b = most (isNone (find h (entries a f))) in omega arith
+  write-most k (compacted z r i e) =
+      let c = compact-page a f (entryLength d) i e .1 in
+      let w = shape-of (s .given) .wide in
+      let b = most (isNone (find h (entries a f))) in
+      omega arith
 
   pub write-planned : noRoom a f h d ≡ false → writePlan a h d f ≡ list (writeList a h d f)
   write-planned q =
@@ -212,11 +254,12 @@ module _ {a : Area} {m : Map} {n : ℕ} {f : List ℕ} (s : Stands a m n f) (h :
       cut (suc k) = rw (first-all (suc k) (bare e ∷ []) f (omega arith)) (safe-after (t .1))
 
 -- ---- either, from its plan
-refuse-list : (c : Refusal) (ss : List Store) → refuse c ≡ list ss → ⊥
-refuse-list c ss e = let z : _≡_ {A = ℕ} 0 1 = cc in omega arith
-
-list-same : (ss tt : List Store) → list ss ≡ list tt → ss ≡ tt
-list-same ss tt e = cc
+-- checks that let a list through
+pub listed : (cs : List (Bool × Refusal)) (ss ts : List Store) → checked refuse cs (list ss) ≡ list ts → Passed cs × (ss ≡ ts)
+listed cs ss ts e =
+    let k = checked-passed refuse cs (list ss) (list ts) (λ c q. let z : _≡_ {A = ℕ} 0 1 = cc in omega arith) e in
+    let l = k .1 in
+    (k .0, cc)
 
 some-found : (o : Option Entry) → isNone o ≡ false → (e : Entry) × (o ≡ some e)
 some-found none e = absurd (true≢false e)
@@ -225,23 +268,29 @@ some-found (some c) e = (c, refl)
 -- the store of a delete
 pub delete-list : (a : Area) (f : List ℕ) (h : ℕ) (ss : List Store) → deletePlan a h f ≡ list ss → (e : Entry) × (find h (entries a f) ≡ some e) × (ss ≡ bare e ∷ [])
 delete-list a f h ss e =
-    let k = checked-passed refuse (findChecks a f h) (list (deleteList a h f)) (list ss) (λ x. refuse-list x ss) e in
+    let k = listed (findChecks a f h) (deleteList a h f) ss e in
     let w = some-found (find h (entries a f)) (k .0 .1 .1 .1 .1 .0) in
-    (w .0, w .1, sym (list-same (deleteList a h f) ss (k .1)) ∙ ap bareIf (w .1))
+    (w .0, w .1, sym (k .1) ∙ ap bareIf (w .1))
 
 pub changes : {a : Area} {m : Map} {n : ℕ} {f : List ℕ} → Stands a m n f → (r : Request) → Change r → (ss : List Store) → planOf a r f ≡ list ss
     → Changes a m n (changed r m) (n + newWords r) f ss
 changes s format c ss e = absurd c
 changes s recover c ss e = absurd c
 changes {a} {m} {n} {f} s (write h d) c ss e =
-    let k = checked-passed refuse (writeChecks a f h d) (list (writeList a h d f)) (list ss) (λ x. refuse-list x ss) e in
+    let k = listed (writeChecks a f h d) (writeList a h d f) ss e in
     let t = k .0 .1 .1 .1 in
-    subst (λ (u : List Store). Changes a m n (changed (write h d) m) (n + entryLength d) f u) (list-same (writeList a h d f) ss (k .1))
-    (write-changes s h d (t .0, t .1 .0, c) (t .1 .1 .0))
+    subst (λ (u : List Store). Changes a m n (changed (write h d) m) (n + entryLength d) f u) (k .1) (write-changes s h d (t .0, t .1 .0, c) (t .1 .1 .0))
 changes {a} {m} {n} {f} s (delete h) c ss e =
     let w = delete-list a f h ss e in
     let z : n + 0 ≡ n = omega arith in
     rw z (subst (λ (u : List Store). Changes a m n (changed (delete h) m) n f u) (sym (w .2)) (delete-changes s h (w .0) (w .1)))
+
+-- a plan that lists stores was made on a ready area
+pub change-ready : (a : Area) (f : List ℕ) (r : Request) → Change r → (ss : List Store) → planOf a r f ≡ list ss → ready a f ≡ true
+change-ready a f format c ss e = absurd c
+change-ready a f recover c ss e = absurd c
+change-ready a f (write h d) c ss e = let k = listed (writeChecks a f h d) (writeList a h d f) ss e .0 in passed-ready a f (k .1 .0) (k .1 .1 .0)
+change-ready a f (delete h) c ss e = let k = listed (findChecks a f h) (deleteList a h f) ss e .0 in passed-ready a f (k .1 .0) (k .1 .1 .0)
 
 -- with any power
 pub run-safe : {a : Area} {m : Map} {n : ℕ} {f : List ℕ} → Stands a m n f → (r : Request) → Change r → (k : ℕ) → Safe a m n (changed r m) (n + newWords r) (run a r k f .flash)
@@ -251,23 +300,49 @@ run-safe {a} {m} {n} {f} s r c k = go (planOf a r f) refl
     go (refuse x) e = safe-before s
     go (list ss) e = changes s r c ss e .cut k
 
--- ---- recoveries, cut any number of times
-recover-planned : {a : Area} {f : List ℕ} → Undamaged a f → recoverPlan a f ≡ list (recoverList a f)
-recover-planned {a} {f} u = passed-checked refuse (recoverChecks a f) (list (recoverList a f)) (u .given .right, (u .sound, tt))
+-- a list is cut just when it is longer than the power lasts
+pub uncut-list : (ss : List Store) (k : ℕ) (f : List ℕ) → wasCut (outcomeOf (list ss) k f .answer) ≡ false → length ss ≤ k
+uncut-list ss k f c = ⊎-elim (λ h. h) short (le-or-lt (length ss) k)
+  where
+    short : k < length ss → length ss ≤ k
+    short h = absurd (true≢false (rw (lt-leb (length ss) k h) at c))
 
-uncut-enough : (ss : List Store) (k : ℕ) (f : List ℕ) → wasCut (outcomeOf (list ss) k f .answer) ≡ false → length ss ≤ k
-uncut-enough ss k f e = ⊎-elim (λ l. l) (λ l. absurd (true≢false (rw (lt-leb (length ss) k l) at e))) (le-or-lt (length ss) k)
+pub cut-list : (ss : List Store) (k : ℕ) (f : List ℕ) → wasCut (outcomeOf (list ss) k f .answer) ≡ true → k < length ss
+cut-list ss k f c = ⊎-elim enough (λ h. h) (le-or-lt (length ss) k)
+  where
+    enough : length ss ≤ k → k < length ss
+    enough h = absurd (false≢true (rw (le-leb (length ss) k h) at c))
+
+-- ---- recoveries, cut any number of times
+pub recover-planned : {a : Area} {f : List ℕ} → Undamaged a f → recoverPlan a f ≡ list (recoverList a f)
+recover-planned {a} {f} u = passed-checked refuse (recoverChecks a f) (list (recoverList a f)) (u .given .right, (u .sound, tt))
 
 pub recovers-ends : {a : Area} {f g : List ℕ} → Undamaged a f → Recovers a f g → g ≡ recovered a f
 recovers-ends {a} {f} u (whole k e) =
     let p = recover-planned u in
-    ap (λ (x : Plan). outcomeOf x k f .flash) p ∙ first-all k (recoverList a f) f (uncut-enough (recoverList a f) k f (rw p at e))
+    ap (λ (x : Plan). outcomeOf x k f .flash) p ∙ first-all k (recoverList a f) f (uncut-list (recoverList a f) k f (rw p at e))
 recovers-ends {a} {f} {g} u (after-cut k e t) =
     let p : run a recover k f .flash ≡ madeFirst k (recoverList a f) f = ap (λ (x : Plan). outcomeOf x k f .flash) (recover-planned u) in
     let r = recover-resumes a in
     recovers-ends (subst (Undamaged a) (sym p) (r .keeps f u k)) t ∙ ap (recovered a) p ∙ r .again f u k
 
+pub recover-exists : {a : Area} {f : List ℕ} → Undamaged a f → (g : List ℕ) × Recovers a f g
+recover-exists {a} {f} u =
+    let k = length (recoverList a f) in
+    (run a recover k f .flash, whole {f = f} k (rw (recover-planned u, le-leb (length (recoverList a f)) (length (recoverList a f)) (le-refl (length (recoverList a f))))))
+
 -- ---- what demand 3 follows from
+-- what a request is to do on an area that stands: make stores, all of which leave the area with the change made; or refuse, for a
+-- delete of what is not there
+pub data Planned (a : Area) (r : Request) (m : Map) (n : ℕ) (f : List ℕ) : Type 0 where
+  stores : (ss : List Store) → planOf a r f ≡ list ss → Stands a (changed r m) (n + newWords r) (made ss f) → Planned a r m n f
+  absent : planOf a r f ≡ refuse NotFound → r ≡ delete (handleIn r) → m (handleIn r) ≡ none → Planned a r m n f
+
+-- what a cut request leaves after recovery: all as before; or the change made, and asked again the request has nothing to do
+pub data Left (a : Area) (r : Request) (m : Map) (n : ℕ) (g : List ℕ) : Type 0 where
+  before : Stands a m n g → Left a r m n g
+  after : Stands a (changed r m) (n + newWords r) g → planOf a r g ≡ list [] → Left a r m n g
+
 module _ (a : Area) where
   proper-change : (r : Request) → Proper r → Change r
   proper-change format p = absurd p

@@ -4,7 +4,7 @@ use mathlib.Core.List.{List, [], _∷_}
 use mathlib.Core.Bool.{Bool, true, false, cond}
 use mathlib.Core.Option.{Option, some, none}
 use mathlib.Core.Logic.{_≢_}
-use Prim.Native.Nat.{ℕ, suc, _+_, _≤_, _<_}
+use Prim.Native.Nat.{ℕ, suc, _+_, _*_, _≤_, _<_}
 use lib.ListN.{length, getD, take, drop}
 use lib.Bits.{bitAnd}
 use lib.Dec.{eqb}
@@ -15,9 +15,9 @@ use Rattle.rules.specs.declared.Refusal.{Refusal}
 use Rattle.rules.specs.declared.Refusal.the-variants.{NotFound}
 use Rattle.rules.specs.Words.{header}
 use Rattle.rules.specs.Walk.{entryLength}
-use Rattle.rules.specs.Areas.{mapOf, ready}
-use Rattle.rules.specs.Refusals.{wrongGeometry, badHandle, badLength, Outcome, outcome}
-use Rattle.rules.specs.Lists.{recoverList, recoverPlan, Request, format, recover, write, delete, planOf}
+use Rattle.rules.specs.Areas.{pageEntries, entries, find, mapOf, liveWords, ready}
+use Rattle.rules.specs.Refusals.{wrongGeometry, badHandle, badLength, isNone, holds, Outcome, outcome}
+use Rattle.rules.specs.Lists.{roomPage, compactPage, recoverList, Request, format, recover, write, delete, planOf}
 
 -- a flash of 32-bit words, and an area on it whose geometry is right
 pub record Given (a : Area) (f : List ℕ) : Type 0 where
@@ -31,6 +31,17 @@ pub data Fair : List Store → List ℕ → Type 0 where
   fair-put : {at w : ℕ} {ss : List Store} {f : List ℕ} → at < length f → bitAnd (getD f at 0) w ≡ w → Fair ss (stored f at w)
       → Fair (put at w ∷ ss) f
   fair-wipe : {at n : ℕ} {ss : List Store} {f : List ℕ} → at + n ≤ length f → Fair ss (wiped f at n) → Fair (wipe at n ∷ ss) f
+
+-- how many stores a write has: none for data that is held; n + 2 for n words, or n + 3 where the handle has an entry; and in front of
+-- them, where page i is compacted, 2L + 8 for its L live words
+abbrev pub appendStores : Area → List ℕ → ℕ → List ℕ → ℕ
+appendStores a f h d = length d + cond (isNone (find h (entries a f))) 2 3
+
+pub data WriteStores (a : Area) (f : List ℕ) (h : ℕ) (d : List ℕ) : ℕ → Type 0 where
+  held : holds a f h d ≡ true → WriteStores a f h d 0
+  appended : holds a f h d ≡ false → (i : ℕ) → roomPage a f (entryLength d) ≡ some i → WriteStores a f h d (appendStores a f h d)
+  compacted : holds a f h d ≡ false → roomPage a f (entryLength d) ≡ none → (i : ℕ) → compactPage a f (entryLength d) ≡ some i
+      → WriteStores a f h d (2 * liveWords (pageEntries a f i) + 8 + appendStores a f h d)
 
 -- ---- requests and maps
 -- a request that anyone can type: the data of a write is a list of 32-bit words

@@ -1,0 +1,192 @@
+-- What is claimed of the manager's crash-safety, and where it is proved. The claims are of document 01's definitions (crate `rules`); `Terms` has
+-- the few words that they are stated in. Each holds for every flash f of 32-bit words and every area a of right geometry on it: N from 1
+-- to 255, the three page sizes. Assumes nothing.
+use mathlib.Core.Path.{_≡_, refl, ap, sym, _∙_, subst}
+use mathlib.Core.Logic.{⊎-elim, _⊎_, inl, inr, _≢_}
+use mathlib.Core.List.{List, [], _∷_, List·Permᴰ, List·Permᴰ·swap}
+use mathlib.Core.Bool.{Bool, true, false}
+use mathlib.Core.Option.{Option, some, none}
+use Prim.Native.Nat.{ℕ, suc, _+_, _*_, _≤_, _<_}
+use native.Mathlib.Omega.{arith}
+use lib.ListN.{length, take, drop}
+use lib.Bits.{bitAnd}
+use lib.Dec.{eqb}
+use borrow.Author.Tests.{eq-eqb}
+use Rattle.flash.specs.Stores.{Store, made, madeFirst}
+use Rattle.rules.specs.declared.Area.{Area}
+use Rattle.rules.specs.declared.Refusal.the-variants.{NotFound}
+use Rattle.rules.specs.declared.Answer.{Answer}
+use Rattle.rules.specs.declared.Reading.{Reading}
+use Rattle.rules.specs.declared.Yielded.{Yielded}
+use Rattle.rules.specs.Words.{longest, lastSeal, isLive}
+use Rattle.rules.specs.Walk.{stop, sealed}
+use Rattle.rules.specs.Areas.{page, kind, committed, recovery, Entry, entries, twice, find, dataOf, mapOf, liveWords, damaged, ready}
+use Rattle.rules.specs.Refusals.{badHandle, areaQuota, formatChecks, recoverChecks, writeChecks, findChecks, list}
+use Rattle.rules.specs.Lists.{formatList, deleteList, compact, roomPage, compactPage, writeList, recoverList, Request, format, recover, write, delete, planOf}
+use Rattle.rules.specs.Search.{readOf, badPlace, searchOf}
+use Rattle.demands.specs.Terms.{Given, Fair, WriteStores, Typed, Change, Proper, handleIn, newWords, Map, changed, changedAll, newWordsAll, Holds, run, recovered, Recovers, Carried, CarriedAll, ProperAll, AllDiffer, FineAll, StandsAt}
+use Rattle.demands.specs.Mending.{shape-of, Stands, ready-stands, ready-sound}
+use Rattle.demands.specs.Finishing.{Undamaged, recover-resumes, recover-fair, recover-ready, ready-rests, recovered-same}
+use Rattle.demands.specs.Format.{format-fair, format-ready, format-empty, format-length}
+use Rattle.demands.specs.Room.{compact-page, compact-exists}
+use Rattle.demands.specs.Compacting.{packed-stands, packed-room}
+use Rattle.demands.specs.Reading.{read-held, read-absent, held-read, search-yields, search-skips-none, search-read}
+use Rattle.demands.specs.Requests.{Changes, listed, delete-list, write-counts, write-most, changes, change-ready, run-safe, recover-planned, recovers-ends, recover-exists}
+use Rattle.demands.specs.Orders.{carried-all, reordered, carry-exists}
+
+module _ {a : Area} {f : List ℕ} (given : Given a f) where
+  -- the terms of the proofs for those of the claims
+  stands : ready a f ≡ true → Stands a (mapOf a f) (liveWords (entries a f)) f
+  stands r = ready-stands given r
+
+  undamaged : damaged a f ≡ false → Undamaged a f
+  undamaged d = record { given = given; sound = d }
+
+  holds : {g : List ℕ} {m : Map} {n : ℕ} → Stands a m n g → Holds a g m
+  holds s = record { ready = s .ready; map = s .map }
+
+  changed-by : (r : Request) → Change r → (ss : List Store) → planOf a r f ≡ list ss
+      → Changes a (mapOf a f) (liveWords (entries a f)) (changed r (mapOf a f)) (liveWords (entries a f) + newWords r) f ss
+  changed-by r c ss e = changes (stands (change-ready a f r c ss e)) r c ss e
+
+  -- ---- 1. No store asks a cleared bit to come back, and each lies inside the run: whatever a plan lists, for whatever is asked.
+  pub no-bit-back : (r : Request) → Typed r → (ss : List Store) → planOf a r f ≡ list ss → Fair ss f
+  no-bit-back format t ss e = rw (← listed (formatChecks a f) (formatList a f) ss e .1) (format-fair given)
+  no-bit-back recover t ss e =
+      let k = listed (recoverChecks a f) (recoverList a f) ss e in
+      rw (← k .1) (recover-fair a f (undamaged (k .0 .1 .0)))
+  no-bit-back (write h d) t ss e = changed-by (write h d) t ss e .fair
+  no-bit-back (delete h) t ss e = changed-by (delete h) t ss e .fair
+
+  -- ---- 2. How many stores there are.
+  pub format-stores : (ss : List Store) → planOf a format f ≡ list ss → length ss ≡ 1 + 4 * a .pages
+  format-stores ss e = rw (← listed (formatChecks a f) (formatList a f) ss e .1) (format-length a f)
+
+  pub delete-stores : (h : ℕ) (ss : List Store) → planOf a (delete h) f ≡ list ss → length ss ≡ 1
+  delete-stores h ss e = ap length (delete-list a f h ss e .2)
+
+  pub write-stores : (h : ℕ) (d : List ℕ) → Change (write h d) → (ss : List Store) → planOf a (write h d) f ≡ list ss
+      → WriteStores a f h d (length ss) × (length ss ≤ 2 * a .words + 3)
+  write-stores h d c ss e =
+      let k = listed (writeChecks a f h d) (writeList a h d f) ss e in
+      let t = k .0 .1 .1 .1 in
+      let s = stands (change-ready a f (write h d) c ss e) in
+      let p : Proper (write h d) = (t .0, t .1 .0, c) in
+      let w = rw (k .1) at (write-counts s h d p (t .1 .1 .0)) in
+      (w, write-most s h d p (length ss) w)
+
+  pub ready-stores : ready a f ≡ true → planOf a recover f ≡ list []
+  ready-stores r = recover-planned (undamaged (ready-sound a f given r)) ∙ ap list (ready-rests a f given r)
+
+  -- ---- 3. Within the quota there is room: where no page has it a page to compact exists, and compacted that very page has it, with the map as it was.
+  pub room : ready a f ≡ true → (l : ℕ) → l ≤ longest → liveWords (entries a f) + l ≤ areaQuota a → roomPage a f l ≡ none
+      → (i : ℕ) × (compactPage a f l ≡ some i) × (stop (page a (made (compact a i f) f) i) + l ≤ lastSeal (a .words))
+      × Holds a (made (compact a i f) f) (mapOf a f)
+  room r l h q e = go (compactPage a f l) refl
+    where
+      go : (o : Option ℕ) → compactPage a f l ≡ o → (i : ℕ) × (o ≡ some i) × (stop (page a (made (compact a i f) f) i) + l ≤ lastSeal (a .words))
+          × Holds a (made (compact a i f) f) (mapOf a f)
+      go none c = absurd (compact-exists a f l (shape-of given) h q c)
+      go (some i) c =
+          let p = compact-page a f l i c in
+          (i, refl, packed-room (stands r) i (p .0) l (p .1), holds (packed-stands (stands r) i (p .0)))
+
+  -- ---- 4. What is written reads back, and nothing else changes.
+  pub whole-change : (r : Request) → Change r → (ss : List Store) → planOf a r f ≡ list ss → Holds a (made ss f) (changed r (mapOf a f))
+  whole-change r c ss e = holds (changed-by r c ss e .stands)
+
+  pub reads-back : (h : ℕ) (d : List ℕ) → Change (write h d) → (ss : List Store) → planOf a (write h d) f ≡ list ss
+      → (p : ℕ) × (readOf a h (made ss f) ≡ Reading.At p (length d)) × StandsAt (made ss f) p h d
+  reads-back h d c ss e =
+      let t = changed-by (write h d) c ss e .stands in
+      let b = listed (writeChecks a f h d) (writeList a h d f) ss e .0 .1 .1 .1 .0 in
+      read-held h d (t .given) (t .ready) b (t .map h ∙ rw (eq-eqb h h refl))
+
+  pub reads-none : (h : ℕ) (ss : List Store) → planOf a (delete h) f ≡ list ss → readOf a h (made ss f) ≡ Reading.Refused NotFound
+  reads-none h ss e =
+      let t = changed-by (delete h) tt ss e .stands in
+      let b = listed (findChecks a f h) (deleteList a h f) ss e .0 .1 .1 .1 .0 in
+      read-absent h (t .given) (t .ready) b (t .map h ∙ rw (eq-eqb h h refl))
+
+  pub formatted : (ss : List Store) → planOf a format f ≡ list ss → Holds a (made ss f) (λ u. none)
+  unfolding mapOf
+  formatted ss e = rw (← listed (formatChecks a f) (formatList a f) ss e .1) (record { ready = format-ready given; map = λ u. rw (format-empty given) })
+
+  -- What a ready area's layout holds is what the map, reads and searches give.
+  pub map-read : ready a f ≡ true → (h : ℕ) → badHandle h ≡ false → (d : List ℕ) → mapOf a f h ≡ some d
+      → (p : ℕ) × (readOf a h f ≡ Reading.At p (length d)) × StandsAt f p h d
+  map-read r h b d e = read-held h d given r b e
+
+  pub map-unread : ready a f ≡ true → (h : ℕ) → badHandle h ≡ false → mapOf a f h ≡ none → readOf a h f ≡ Reading.Refused NotFound
+  map-unread r h b e = read-absent h given r b e
+
+  pub read-map : (h p n : ℕ) → readOf a h f ≡ Reading.At p n → (mapOf a f h ≡ some (take n (drop (suc p) f))) × StandsAt f p h (take n (drop (suc p) f))
+  read-map h p n e = held-read h p n given e
+
+  pub search-map : (mask pattern place q : ℕ) → searchOf a mask pattern place f ≡ Yielded.At q
+      → (h : ℕ) × (d : List ℕ) × (place < q) × StandsAt f q h d × (mapOf a f h ≡ some d) × (isLive h ≡ true) × (eqb (bitAnd h mask) (bitAnd pattern mask) ≡ true)
+  search-map mask pattern place q e = search-yields mask pattern place q given e
+
+  pub search-all : (mask pattern place h p n : ℕ) → badPlace a f place ≡ false → readOf a h f ≡ Reading.At p n
+      → eqb (bitAnd h mask) (bitAnd pattern mask) ≡ true → place < p → (q : ℕ) × (searchOf a mask pattern place f ≡ Yielded.At q) × (q ≤ p)
+  search-all mask pattern place h p n b r e l = search-skips-none mask pattern place h p n given b r e l
+
+  pub search-one : (h p n : ℕ) → readOf a h f ≡ Reading.At p n → searchOf a 0xFFFF h 0 f ≡ Yielded.At p
+  search-one h p n e = search-read h p n given e
+
+  -- ---- 5. Recovery of an undamaged area ends ready; cut at any store and made anew it ends in the very same flash, word for word, however
+  -- often it is cut; and it loses nothing where it has nothing to finish, to mend or to drop.
+  pub ends-ready : damaged a f ≡ false → ready a (recovered a f) ≡ true
+  ends-ready d = recover-ready a f (undamaged d)
+
+  pub taken-up-again : damaged a f ≡ false → (k : ℕ)
+      → (damaged a (madeFirst k (recoverList a f) f) ≡ false) × (recovered a (madeFirst k (recoverList a f) f) ≡ recovered a f)
+  taken-up-again d k = let r = recover-resumes a in (r .keeps f (undamaged d) k .sound, r .again f (undamaged d) k)
+
+  pub any-cuts : damaged a f ≡ false → (g : List ℕ) → Recovers a f g → g ≡ recovered a f
+  any-cuts d g t = recovers-ends (undamaged d) t
+
+  pub loses-nothing : damaged a f ≡ false → ((i : ℕ) → recovery a f ≢ committed i) → ((i : ℕ) → i < a .pages → kind a f i ≡ sealed)
+      → twice (entries a f) ≡ false → (u : ℕ) → mapOf a (recovered a f) u ≡ mapOf a f u
+  unfolding mapOf
+  loses-nothing d c s t u = ap (λ (es : List Entry). dataOf (find u es)) (recovered-same f (undamaged d) c s t)
+
+  -- ---- 6. A write or a delete on a ready area with power for k stores, then recoveries, any number of them cut and the last one not: the
+  -- area is ready, and the map is the one from before or the one from after.
+  pub before-or-after : ready a f ≡ true → (r : Request) → Change r → (k : ℕ) (g : List ℕ) → Recovers a (run a r k f .flash) g
+      → Holds a g (mapOf a f) ⊎ Holds a g (changed r (mapOf a f))
+  before-or-after r q c k g t =
+      let w = run-safe (stands r) q c k in
+      let e = recovers-ends (w .undamaged) t in
+      ⊎-elim (λ x. inl (rw e (holds x))) (λ x. inr (rw e (holds x))) (w .ends)
+
+  -- ---- 7. Demand 3. Requests on handles that all differ, their new words within the quota, each carried through with any cuts: the area
+  -- is ready, the map is the starting one with all changes made, and each answers DONE, or NOTFOUND for a delete of what is not there.
+  pub all-made : ready a f ≡ true → (rs : List Request) → ProperAll rs → AllDiffer rs → liveWords (entries a f) + newWordsAll rs ≤ areaQuota a
+      → (xs : List Answer) (g : List ℕ) → CarriedAll a rs f xs g → Holds a g (changedAll rs (mapOf a f)) × FineAll (mapOf a f) rs xs
+  all-made r rs p o q xs g c = let w = carried-all a rs (mapOf a f) (liveWords (entries a f)) f p o (stands r) q xs g c in (holds (w .0), w .1)
+
+  -- In any order the map is the same.
+  pub any-order : ready a f ≡ true → (rs qs : List Request) → List·Permᴰ rs qs → ProperAll rs → AllDiffer rs
+      → liveWords (entries a f) + newWordsAll rs ≤ areaQuota a → (xs : List Answer) (g : List ℕ) → CarriedAll a qs f xs g
+      → Holds a g (changedAll rs (mapOf a f)) × FineAll (mapOf a f) qs xs
+  any-order r rs qs t p o q xs g c = let w = reordered a rs qs t (mapOf a f) (liveWords (entries a f)) f p o (stands r) q xs g c in (holds (w .0), w .1)
+
+  -- Of two requests.
+  pub either-order : ready a f ≡ true → (r q : Request) → Proper r → Proper q → handleIn r ≢ handleIn q
+      → liveWords (entries a f) + (newWords r + newWords q) ≤ areaQuota a
+      → (xs ys : List Answer) (g k : List ℕ) → CarriedAll a (r ∷ (q ∷ [])) f xs g → CarriedAll a (q ∷ (r ∷ [])) f ys k
+      → Holds a g (changed q (changed r (mapOf a f))) × Holds a k (changed q (changed r (mapOf a f)))
+  either-order e r q p o d l xs ys g k c b =
+      let z : liveWords (entries a f) + (newWords r + (newWords q + 0)) ≤ areaQuota a = omega arith in
+      let differ : AllDiffer (r ∷ (q ∷ [])) = (((λ x. d (sym x)), tt), (tt, tt)) in (
+        all-made e (r ∷ (q ∷ [])) (p, (o, tt)) differ z xs g c .0,
+        any-order e (r ∷ (q ∷ [])) (q ∷ (r ∷ [])) (List·Permᴰ·swap refl refl) (p, (o, tt)) differ z ys k b .0,
+      )
+
+  -- They can be carried through: no cut shuts the way.
+  pub can-recover : damaged a f ≡ false → (g : List ℕ) × Recovers a f g
+  can-recover d = recover-exists (undamaged d)
+
+  pub can-carry : ready a f ≡ true → (r : Request) → Proper r → liveWords (entries a f) + newWords r ≤ areaQuota a → (x : Answer) × (g : List ℕ) × Carried a r f x g
+  can-carry r q p l = carry-exists a q (mapOf a f) (liveWords (entries a f)) f p (stands r) l
