@@ -20,13 +20,14 @@ use Rattle.rules.specs.declared.Reading.{Reading}
 use Rattle.rules.specs.declared.Yielded.{Yielded}
 use Rattle.rules.specs.Words.{longest, lastSeal, isLive}
 use Rattle.rules.specs.Walk.{stop, sealed}
-use Rattle.rules.specs.Areas.{page, kind, committed, recovery, Entry, entries, twice, find, dataOf, mapOf, liveWords, damaged, ready}
+use Rattle.rules.specs.Areas.{page, kind, committed, recovery, entries, twice, dataOf, mapOf, liveWords, damaged, ready}
 use Rattle.rules.specs.Refusals.{badHandle, areaQuota, formatChecks, recoverChecks, writeChecks, findChecks, list}
 use Rattle.rules.specs.Lists.{formatList, deleteList, compact, roomPage, compactPage, writeList, recoverList, Request, format, recover, write, delete, planOf}
 use Rattle.rules.specs.Search.{readOf, badPlace, searchOf}
-use Rattle.demands.specs.Terms.{Given, Fair, WriteStores, Typed, Change, Proper, handleIn, newWords, Map, changed, changedAll, newWordsAll, Holds, run, recovered, Recovers, Carried, CarriedAll, ProperAll, AllDiffer, FineAll, StandsAt}
+use Rattle.demands.specs.Terms.{Given, Fair, WriteStores, Typed, Change, Proper, handleIn, newWords, Map, changed, changedAll, newWordsAll, Holds, run, recovered, Recovers, Carried, CarriedAll, ProperAll, AllDiffer, FineAll, StandsAt, lastLive}
+use Rattle.demands.specs.Entries.{once-last}
 use Rattle.demands.specs.Mending.{shape-of, Stands, ready-stands, ready-sound}
-use Rattle.demands.specs.Finishing.{Undamaged, recover-resumes, recover-fair, recover-ready, ready-rests, recovered-same}
+use Rattle.demands.specs.Finishing.{Undamaged, recover-resumes, recover-fair, recover-ready, ready-rests, recovered-last}
 use Rattle.demands.specs.Format.{format-fair, format-ready, format-empty, format-length}
 use Rattle.demands.specs.Room.{compact-page, compact-exists}
 use Rattle.demands.specs.Compacting.{packed-stands, packed-room}
@@ -135,7 +136,8 @@ module _ {a : Area} {f : List ℕ} (given : Given a f) where
   search-one h p n e = search-read h p n given e
 
   -- ---- 5. Recovery of an undamaged area ends ready; cut at any store and made anew it ends in the very same flash, word for word, however
-  -- often it is cut; and it loses nothing where it has nothing to finish, to mend or to drop.
+  -- often it is cut. With no R committed and nothing torn each handle keeps its last live entry; and with nothing double besides, the map is
+  -- unchanged.
   pub ends-ready : damaged a f ≡ false → ready a (recovered a f) ≡ true
   ends-ready d = recover-ready a f (undamaged d)
 
@@ -146,10 +148,15 @@ module _ {a : Area} {f : List ℕ} (given : Given a f) where
   pub any-cuts : damaged a f ≡ false → (g : List ℕ) → Recovers a f g → g ≡ recovered a f
   any-cuts d g t = recovers-ends (undamaged d) t
 
+  pub keeps-last : damaged a f ≡ false → ((i : ℕ) → recovery a f ≢ committed i) → ((i : ℕ) → i < a .pages → kind a f i ≡ sealed)
+      → (u : ℕ) → mapOf a (recovered a f) u ≡ dataOf (lastLive u (entries a f))
+  unfolding mapOf
+  keeps-last d c s u = ap dataOf (recovered-last f (undamaged d) c s u)
+
   pub loses-nothing : damaged a f ≡ false → ((i : ℕ) → recovery a f ≢ committed i) → ((i : ℕ) → i < a .pages → kind a f i ≡ sealed)
       → twice (entries a f) ≡ false → (u : ℕ) → mapOf a (recovered a f) u ≡ mapOf a f u
   unfolding mapOf
-  loses-nothing d c s t u = ap (λ (es : List Entry). dataOf (find u es)) (recovered-same f (undamaged d) c s t)
+  loses-nothing d c s t u = keeps-last d c s u ∙ ap dataOf (sym (once-last u (entries a f) t))
 
   -- ---- 6. A write or a delete on a ready area with power for k stores, then recoveries, any number of them cut and the last one not: the
   -- area is ready, and the map is the one from before or the one from after.

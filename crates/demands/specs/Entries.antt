@@ -16,6 +16,7 @@ use Rattle.rules.specs.Walk.{Item, entryLength, codes}
 use Rattle.rules.specs.Areas.{Entry, placed, anyOf, firstOf, liveOf, doubled, twice, find, dataOf, liveWords}
 use Rattle.rules.specs.Lists.{bare, keepLive, supersede}
 use Rattle.rules.specs.Laws.{and-left, and-right, nor-left, nor-right}
+use Rattle.demands.specs.Terms.{lastLive}
 
 -- an entry whose header is its bare length
 abbrev pub zeroed : Entry → Entry
@@ -242,21 +243,67 @@ supersede-one (c ∷ p) e s d t = rw (any-skip (liveOf (c .handle)) p e s other 
         (λ l. let k = live-handle (c .handle) e l .1 in
         true≢false (sym (any-right (liveOf (c .handle)) p s (ap (λ (u : ℕ). anyOf (liveOf u) s) (sym k) ∙ d)) ∙ n))
 
-pub supersede-first : (x : List Entry) (s : Store) (ss : List Store) → supersede x ≡ s ∷ ss
-    → (p : List Entry) × (e : Entry) × (q : List Entry) × (x ≡ p ++ e ∷ q) × (s ≡ bare e) × (supersede (p ++ zeroed e ∷ q) ≡ ss)
+-- the first entry that goes, and what goes after it
+pub record Superseded (x : List Entry) (s : Store) (ss : List Store) : Type 0 where
+  pub pre : List Entry
+  pub entry : Entry
+  pub suf : List Entry
+  pub is : x ≡ pre ++ entry ∷ suf
+  pub store : s ≡ bare entry
+  pub later : doubled entry suf ≡ true
+  pub others : supersede (pre ++ zeroed entry ∷ suf) ≡ ss
+
+pub supersede-first : (x : List Entry) (s : Store) (ss : List Store) → supersede x ≡ s ∷ ss → Superseded x s ss
 supersede-first [] s ss q = absurd (nil≢cons q)
 supersede-first (c ∷ x) s ss q = go (doubled c x) refl q (supersede-first x s ss)
   where
-    go : (b : Bool) → doubled c x ≡ b → cond b (bare c ∷ supersede x) (supersede x) ≡ s ∷ ss
-        → (supersede x ≡ s ∷ ss → (p : List Entry) × (e : Entry) × (q : List Entry) × (x ≡ p ++ e ∷ q) × (s ≡ bare e) × (supersede (p ++ zeroed e ∷ q) ≡ ss))
-        → (p : List Entry) × (e : Entry) × (q : List Entry) × (c ∷ x ≡ p ++ e ∷ q) × (s ≡ bare e) × (supersede (p ++ zeroed e ∷ q) ≡ ss)
-    go true r q ih = ([], c, x, refl, sym (head-eq-of-cons-eq q), rw (none-dead 0 x refl) (tail-eq-of-cons-eq q))
+    go : (b : Bool) → doubled c x ≡ b → cond b (bare c ∷ supersede x) (supersede x) ≡ s ∷ ss → (supersede x ≡ s ∷ ss → Superseded x s ss) → Superseded (c ∷ x) s ss
+    go true r q ih =
+        record { pre = []; entry = c; suf = x; is = refl; store = sym (head-eq-of-cons-eq q); later = r; others = rw (none-dead 0 x refl) (tail-eq-of-cons-eq q) }
     go false r q ih =
         let t = ih q in
-        let n : doubled c (t .0 ++ t .1 ∷ t .2) ≡ false = ap (λ (u : List Entry). doubled c u) (sym (t .3)) ∙ r in
-        let m : doubled c (t .0 ++ zeroed (t .1) ∷ t .2) ≡ false =
-        any-skip (liveOf (c .handle)) (t .0) (zeroed (t .1)) (t .2) (zeroed-dead (c .handle) (t .1)) ∙ none-drop (liveOf (c .handle)) (t .0) (t .1) (t .2) n in
-        (c ∷ t .0, t .1, t .2, ap (λ (u : List Entry). c ∷ u) (t .3), t .4, rw m (t .5))
+        let n : doubled c (t .pre ++ t .entry ∷ t .suf) ≡ false = ap (λ (u : List Entry). doubled c u) (sym (t .is)) ∙ r in
+        let m : doubled c (t .pre ++ zeroed (t .entry) ∷ t .suf) ≡ false =
+        any-skip (liveOf (c .handle)) (t .pre) (zeroed (t .entry)) (t .suf) (zeroed-dead (c .handle) (t .entry)) ∙ none-drop (liveOf (c .handle)) (t .pre) (t .entry) (t .suf) n in
+        record { pre = c ∷ t .pre; entry = t .entry; suf = t .suf; is = ap (λ (u : List Entry). c ∷ u) (t .is); store = t .store; later = t .later; others = rw m (t .others) }
+
+-- ---- the last live entry of a handle
+any-stays : (h : ℕ) (x : List Entry) (e : Entry) (y : List Entry) → doubled e y ≡ true → anyOf (liveOf h) (x ++ zeroed e ∷ y) ≡ anyOf (liveOf h) (x ++ e ∷ y)
+any-stays h x e y d = go (liveOf h e) refl
+  where
+    go : (b : Bool) → liveOf h e ≡ b → anyOf (liveOf h) (x ++ zeroed e ∷ y) ≡ anyOf (liveOf h) (x ++ e ∷ y)
+    go true p =
+        let k = live-handle h e p in
+        let z : anyOf (liveOf h) y ≡ true = rw (k .1) at d in
+        any-skip (liveOf h) x (zeroed e) y (zeroed-dead h e) ∙ any-right (liveOf h) x y z ∙ sym (any-at (liveOf h) x e y p)
+    go false p = any-skip (liveOf h) x (zeroed e) y (zeroed-dead h e) ∙ sym (any-skip (liveOf h) x e y p)
+
+last-none : (h : ℕ) (x : List Entry) → anyOf (liveOf h) x ≡ false → lastLive h x ≡ none
+last-none h [] q = refl
+last-none h (c ∷ x) q = rw (nor-right (liveOf h c) _ q, nor-left (liveOf h c) _ q)
+
+-- with no handle live twice it is the only one
+pub once-last : (h : ℕ) (x : List Entry) → twice x ≡ false → find h x ≡ lastLive h x
+once-last h [] t = refl
+once-last h (c ∷ x) t = go (liveOf h c) refl (anyOf (liveOf h) x) refl (once-last h x (nor-right (doubled c x) _ t))
+  where
+    go : (b : Bool) → liveOf h c ≡ b → (d : Bool) → anyOf (liveOf h) x ≡ d → find h x ≡ lastLive h x → find h (c ∷ x) ≡ lastLive h (c ∷ x)
+    go true p true q ih =
+        let e = live-handle h c p in
+        absurd (true≢false (sym q ∙ rw (e .1) at (nor-left (doubled c x) _ t)))
+    go true p false q ih = rw (p, q)
+    go false p true q ih = rw (p, q) ih
+    go false p false q ih = rw (p, q) (none-find h x q)
+
+-- it stays when an earlier one goes
+pub last-stays : (h : ℕ) (x : List Entry) (e : Entry) (y : List Entry) → doubled e y ≡ true → lastLive h (x ++ zeroed e ∷ y) ≡ lastLive h (x ++ e ∷ y)
+last-stays h [] e y d = go (liveOf h e) refl (anyOf (liveOf h) y) refl
+  where
+    go : (b : Bool) → liveOf h e ≡ b → (c : Bool) → anyOf (liveOf h) y ≡ c → lastLive h (zeroed e ∷ y) ≡ lastLive h (e ∷ y)
+    go b p true q = rw q
+    go true p false q = let k = live-handle h e p in absurd (true≢false (sym (rw (k .1) at d) ∙ q))
+    go false p false q = rw (q, p, zeroed-dead h e)
+last-stays h (c ∷ x) e y d = rw (last-stays h x e y d, any-stays h x e y d)
 
 -- ---- cuts
 pub split-append {ℓ} : {A : Type ℓ} (x y p : List A) (e : A) (s : List A) → x ++ y ≡ p ++ e ∷ s

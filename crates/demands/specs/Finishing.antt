@@ -15,16 +15,16 @@ use Rattle.flash.specs.Laws.{le-or-lt, first-none, first-all, first-nil}
 use Rattle.rules.specs.declared.Area.{Area}
 use Rattle.rules.specs.Words.{meta0, meta1, indexOf, seal}
 use Rattle.rules.specs.Walk.{Item, codes, items, stop, allBlank, sealed, kindOf, isSealed, isSound}
-use Rattle.rules.specs.Areas.{R, base, page, kind, every, Recovery, free, unfinished, committed, damage, recoveryOf, recovery, isDamage, names, entries, twice, damaged, ready, liveWords}
+use Rattle.rules.specs.Areas.{R, base, page, kind, every, Recovery, free, unfinished, committed, damage, recoveryOf, recovery, isDamage, names, entries, find, damaged, ready}
 use Rattle.rules.specs.Lists.{erase, copyTo, restore, finishAs, finish, dropDoubles, recoverList}
 use Rattle.rules.specs.Laws.{and-left, and-right, nor-left, nor-right}
-use Rattle.demands.specs.Terms.{Given, Fair, fair-end, Map, recovered}
+use Rattle.demands.specs.Terms.{Given, Fair, fair-end, Map, recovered, lastLive}
 use Rattle.demands.specs.Stages.{made-append, after, after-then, fair-append, Resumes, then-resumes, peels-resumes, peels-ends, peels-fair}
 use Rattle.demands.specs.Pages.{blanks, image, length-image, goods-items, at-seal, kind-image, stop-image, sealed-shape, is-sealed, words-image}
 use Rattle.demands.specs.Runs.{same-or-not, over-blank, take-puts, length-puts, words-take, words-append, words-left, words-page, page-in, length-page, Only, only-self, only-as, only-trans, only-same, Turns, turns-none, turns-as, turns-then, turns-put, turns-fill, turns-wipe, every-true, true-every}
-use Rattle.demands.specs.Entries.{look, supersede-none}
+use Rattle.demands.specs.Entries.{supersede-none, once-last}
 use Rattle.demands.specs.Layout.{entries-spare}
-use Rattle.demands.specs.Mending.{given-made, shape-of, free-blank, Mended, Settled, Stands, stands-by, stands-settled, mended-free, mended-sound, ready-settled, mendAll, mendAndDrop, later-peels, later-ready, settled-mends}
+use Rattle.demands.specs.Mending.{given-made, shape-of, free-blank, Mended, Settled, Stands, stands-settled, mended-free, mended-sound, ready-settled, drop-keeps-last, mendAll, mendAndDrop, later-peels, later-ready, settled-mends}
 
 -- ---- words copied to a blank page
 pub meta-low : (n i : ℕ) → i < n → n ≤ 255 → meta1 n i < blank
@@ -384,23 +384,23 @@ recovered-by {a} g p e s =
     let r = sym (recover-mended a p (t .0)) ∙ ready-rests a p (s .given) (s .ready) in
     after-then (finish a) (mendAndDrop a) g ∙ ap (after (mendAndDrop a)) e ∙ ap (λ (u : List Store). made u p) r
 
--- where R is not committed, no page is torn and no handle is live twice, a recovery leaves the entries as they are
-pub recovered-same : {a : Area} (f : List ℕ) → Undamaged a f → ((i : ℕ) → recovery a f ≢ committed i) → ((i : ℕ) → i < a .pages → kind a f i ≡ sealed)
-    → twice (entries a f) ≡ false → entries a (recovered a f) ≡ entries a f
+-- where R is not committed and no page is torn, a recovery leaves each handle its last live entry
+pub recovered-last : {a : Area} (f : List ℕ) → Undamaged a f → ((i : ℕ) → recovery a f ≢ committed i) → ((i : ℕ) → i < a .pages → kind a f i ≡ sealed)
+    → (u : ℕ) → find u (entries a (recovered a f)) ≡ lastLive u (entries a f)
 unfolding damaged
-recovered-same {a} f u c s t =
+recovered-last {a} f v c s u =
     let g = after (finish a) f in
     let o = finished-only (recovery a f) refl in
-    let e = entries-spare o in
-    let m = finished a f u .ends in
+    let m = finished a f v .ends in
     let w : Settled a (after (finish a) f) = record { given = m .given; spare = m .spare; sound = m .sound; done = λ i h l. rw (o .there i (λ q. omega arith)) (s i h) } in
-    let v : Stands a (λ u. look u (entries a f)) (liveWords (entries a f)) (after (finish a) f) = stands-by (entries a f) w e t (λ u. refl) (omega arith) in
-    ap (entries a) (recovered-by f g refl v) ∙ e
+    let e : recovered a f ≡ made (dropDoubles a g) g = after-then (finish a) (mendAndDrop a) f ∙ ap (λ (x : List Store). made x g) (sym (recover-mended a g m) ∙ recover-settled a g w) in
+    let t = ready-settled (given-made (recoverList a f) (v .given)) (recover-ready a f v) .1 in
+    once-last u (entries a (recovered a f)) t ∙ ap (λ (x : List ℕ). lastLive u (entries a x)) e ∙ drop-keeps-last u (dropDoubles a g) g w refl ∙ ap (lastLive u) (entries-spare o)
   where
     finished-only : (r : Recovery) → recovery a f ≡ r → Only a f (after (finish a) f) (R a) (page a (after (finish a) f) (R a))
     finished-only free e = rw e (only-self a f (R a))
     finished-only unfinished e =
-        let o = turns-wipe a (R a) (page a f (R a)) .on f (fits a f u (a .pages) (omega arith)) refl .1 in
+        let o = turns-wipe a (R a) (page a f (R a)) .on f (fits a f v (a .pages) (omega arith)) refl .1 in
         rw e (only-as o (sym (o .here)))
     finished-only (committed i) e = absurd (c i e)
-    finished-only damage e = absurd (true≢false (sym (ap isDamage e) ∙ nor-left (isDamage (recovery a f)) _ (u .sound)))
+    finished-only damage e = absurd (true≢false (sym (ap isDamage e) ∙ nor-left (isDamage (recovery a f)) _ (v .sound)))

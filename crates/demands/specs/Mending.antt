@@ -21,11 +21,11 @@ use Rattle.rules.specs.Areas.{R, base, page, kind, every, Recovery, free, unfin
 use Rattle.rules.specs.Refusals.{unready}
 use Rattle.rules.specs.Lists.{bare, lastOf, bareIfLive, mend, supersede, dropDoubles}
 use Rattle.rules.specs.Laws.{and-left, and-right}
-use Rattle.demands.specs.Terms.{Given, Fair, Map}
+use Rattle.demands.specs.Terms.{Given, Fair, Map, lastLive}
 use Rattle.demands.specs.Stages.{after, Peels, then-peels, each-peels, each-ends, each-rests, each-one}
 use Rattle.demands.specs.Pages.{blanks, item, image, Good, Goods, no-item, good-item, goods-append, goods-left, goods-right, goods-head, goods-items, bare-header, header-dead, at-seal, at-blank, blank-all, all-blank, items-image, kind-image, stop-image, sealed-shape, torn-shape, is-sealed, codes-append, front, length-front, image-front, image-at}
 use Rattle.demands.specs.Runs.{same-or-not, Right, right, right-wrong, page-in, length-page, Only, Turns, turns-as, turns-then, turns-put, every-true, true-every}
-use Rattle.demands.specs.Entries.{zeroed, look, none-supersede, supersede-first}
+use Rattle.demands.specs.Entries.{zeroed, look, none-supersede, supersede-first, last-stays}
 use Rattle.demands.specs.Layout.{entryAt, placed-append, Located, located}
 
 pub given-made : {a : Area} {f : List ℕ} (ss : List Store) → Given a f → Given a (made ss f)
@@ -340,8 +340,21 @@ drop-peels a = record { first = go }
     go : (f : List ℕ) → Settled a f → (x : Store) (xs : List Store) → dropDoubles a f ≡ x ∷ xs → Fair (x ∷ []) f × Settled a (apply x f) × (dropDoubles a (apply x f) ≡ xs)
     go f s x xs q =
         let w = supersede-first (entries a f) x xs q in
-        let v = invalidate (w .0) (w .1) (w .2) s (w .3) in
-        rw (w .4) (v .fair, v .settled, ap supersede (v .entries) ∙ w .5)
+        let v = invalidate (w .pre) (w .entry) (w .suf) s (w .is) in
+        rw (w .store) (v .fair, v .settled, ap supersede (v .entries) ∙ w .others)
+
+-- it leaves each handle its last live entry
+pub drop-keeps-last : {a : Area} (u : ℕ) (ss : List Store) (f : List ℕ) → Settled a f → dropDoubles a f ≡ ss → lastLive u (entries a (made ss f)) ≡ lastLive u (entries a f)
+drop-keeps-last u [] f s e = refl
+drop-keeps-last {a} u (x ∷ xs) f s e =
+    let w = supersede-first (entries a f) x xs e in
+    let v = invalidate (w .pre) (w .entry) (w .suf) s (w .is) in
+    let n : dropDoubles a (apply (bare (w .entry)) f) ≡ xs = ap supersede (v .entries) ∙ w .others in
+    ap (λ (y : Store). lastLive u (entries a (made xs (apply y f)))) (w .store)
+    ∙ drop-keeps-last u xs (apply (bare (w .entry)) f) (v .settled) n
+    ∙ ap (lastLive u) (v .entries)
+    ∙ last-stays u (w .pre) (w .entry) (w .suf) (w .later)
+    ∙ ap (lastLive u) (sym (w .is))
 
 -- ---- both
 abbrev pub mendAll : Area → Step

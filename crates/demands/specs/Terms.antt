@@ -15,7 +15,7 @@ use Rattle.rules.specs.declared.Refusal.{Refusal}
 use Rattle.rules.specs.declared.Refusal.the-variants.{NotFound}
 use Rattle.rules.specs.Words.{header}
 use Rattle.rules.specs.Walk.{entryLength}
-use Rattle.rules.specs.Areas.{pageEntries, entries, find, mapOf, liveWords, ready}
+use Rattle.rules.specs.Areas.{Entry, pageEntries, entries, anyOf, liveOf, find, mapOf, liveWords, ready}
 use Rattle.rules.specs.Refusals.{wrongGeometry, badHandle, badLength, isNone, holds, Outcome, outcome}
 use Rattle.rules.specs.Lists.{roomPage, compactPage, recoverList, Request, format, recover, write, delete, planOf}
 
@@ -167,3 +167,8 @@ pub record StandsAt (f : List ℕ) (p h : ℕ) (d : List ℕ) : Type 0 where
   pub head : getD f p 0 ≡ header h (entryLength d)
   pub words : take (length d) (drop (suc p) f) ≡ d
   pub inside : p + length d < length f
+
+-- the last live entry of a handle, in area order
+abbrev pub lastLive : ℕ → List Entry → Option Entry
+lastLive h [] = none
+lastLive h (e ∷ es) = cond (anyOf (liveOf h) es) (lastLive h es) (cond (liveOf h e) (some e) none)
