@@ -1,8 +1,8 @@
 -- An entry appended to a page that has the room: its stores are fair, they change the map in the one handle, and cut anywhere the area
 -- is recovered to the map from before or to the map from after. Assumes nothing.
-use mathlib.Core.Path.{_≡_, refl, ap, sym, _∙_, subst}
-use mathlib.Core.Logic.{⊎-elim, _⊎_, inl, inr, _≢_}
-use mathlib.Core.List.{List, [], _∷_, _++_, append-assoc, append-nil}
+use mathlib.Core.Path.{_≡_, refl, ap, sym, _∙_}
+use mathlib.Core.Logic.{⊎-elim, inl, inr}
+use mathlib.Core.List.{List, [], _∷_, _++_, append-assoc}
 use mathlib.Core.Bool.{Bool, true, false, cond}
 use mathlib.Core.Option.{Option, some, none}
 use Prim.Native.Nat.{ℕ, suc, zero, _+_, _-_, _≤_, _<_}
@@ -10,13 +10,12 @@ use native.Mathlib.Omega.{arith}
 use lib.ListN.{length, take, length-append, length-take, length-replicate, replicate-append-replicate}
 use lib.Seq.{take-append-le}
 use lib.Dec.{eqb}
-use borrow.Author.Tests.{eqb-true}
-use Rattle.flash.specs.Stores.{blank, Words, none, more, Store, put, apply, made, madeFirst, puts}
+use Rattle.flash.specs.Stores.{blank, Words, none, more, Store, apply, made, madeFirst, puts}
 use Rattle.flash.specs.Laws.{le-or-lt, first-none, first-all, first-nil, first-append}
 use Rattle.rules.specs.declared.Area.{Area}
 use Rattle.rules.specs.Words.{lastSeal, header, special, isLive, seal}
-use Rattle.rules.specs.Walk.{Item, entryLength, codes, items, stop, sealed, isSound}
-use Rattle.rules.specs.Areas.{R, base, page, kind, Entry, placed, entries, anyOf, liveOf, doubled, twice, find, liveWords}
+use Rattle.rules.specs.Walk.{Item, entryLength, codes, items, stop}
+use Rattle.rules.specs.Areas.{base, page, Entry, placed, entries, anyOf, liveOf, doubled, twice, find, liveWords}
 use Rattle.rules.specs.Lists.{bare, bareIf, append, mend, supersede, dropDoubles, write}
 use Rattle.rules.specs.Laws.{header-over-seal}
 use Rattle.demands.specs.Terms.{Given, Fair, fair-end, Map, changed, recovered}
@@ -25,8 +24,8 @@ use Rattle.demands.specs.Pages.{blanks, item, image, Good, Goods, no-ite
 use Rattle.demands.specs.Runs.{take-puts, length-puts, words-take, words-append, page-in, length-page, Only, only-trans, Turns, turns-as, turns-then, turns-put, turns-fill}
 use Rattle.demands.specs.Entries.{zeroed, zeroed-dead, look, live-mine, any-skip, any-at, find-some, find-none, once-insert, twice-skip, once-drop, once-apart, look-skip, look-add, look-other, live-skip, live-at, supersede-one, split-append}
 use Rattle.demands.specs.Layout.{entryAt, placed-append, before, behind, entries-split, entries-only}
-use Rattle.demands.specs.Mending.{given-made, shape-of, Mended, Settled, Stands, stands-by, stands-settled, stands-look, mended-only, settled-page, dead-good, Invalidated, invalidate, mend-last, mendAll, mendAndDrop, mend-one, settled-mends}
-use Rattle.demands.specs.Finishing.{Undamaged, mended-undamaged, Safe, recover-mended, recover-settled, stands-recovered}
+use Rattle.demands.specs.Mending.{given-made, shape-of, Mended, Settled, Stands, stands-by, stands-settled, stands-look, mended-only, settled-page, dead-good, Invalidated, invalidate, mend-last, mendAll, mend-one, settled-mends}
+use Rattle.demands.specs.Finishing.{mended-undamaged, Safe, recover-mended, recover-settled, stands-recovered}
 
 -- what is asked: a page with the room, a handle that entries may have, and data
 pub record Fitting (a : Area) (f : List ℕ) (i h : ℕ) (d : List ℕ) : Type 0 where

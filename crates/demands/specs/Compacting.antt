@@ -1,12 +1,12 @@
 -- A compaction: its stores are fair, it leaves the map and makes the room, and cut anywhere it is recovered to the flash from before
 -- it or to the flash from after it. Assumes nothing.
 use mathlib.Core.Path.{_≡_, refl, ap, sym, _∙_, subst}
-use mathlib.Core.Logic.{⊎-elim, _⊎_, inl, inr, _≢_}
+use mathlib.Core.Logic.{⊎-elim, _⊎_, inl, inr}
 use mathlib.Core.List.{List, [], _∷_, _++_, append-assoc}
-use mathlib.Core.Bool.{Bool, true, false, _||_, or-true}
-use Prim.Native.Nat.{ℕ, suc, zero, _+_, _-_, _≤_, _<_, zero-le}
+use mathlib.Core.Bool.{Bool, true, false, or-true}
+use Prim.Native.Nat.{ℕ, suc, _+_, _-_, _≤_, _<_, zero-le}
 use native.Mathlib.Omega.{arith}
-use lib.ListN.{length, getD, take, drop, length-append, length-replicate}
+use lib.ListN.{length, getD, take, drop, length-append}
 use lib.Seq.{take-at}
 use lib.Dec.{eqb}
 use borrow.Author.Tests.{ne-eqb, lt-ltb}
@@ -14,17 +14,17 @@ use Rattle.flash.specs.Stores.{blank, Words, none, more, Store, apply, made, ma
 use Rattle.flash.specs.Laws.{le-or-lt, first-none, first-all, first-then}
 use Rattle.rules.specs.declared.Area.{Area}
 use Rattle.rules.specs.Words.{openWords, lastSeal, meta0, meta1, indexOf, isLive, seal}
-use Rattle.rules.specs.Walk.{Item, codes, items, stop, allBlank, sealed, isSound}
-use Rattle.rules.specs.Areas.{R, base, page, kind, Recovery, free, unfinished, committed, recoveryOf, recovery, placed, pageEntries, entries, twice, liveWords, damaged, ready}
-use Rattle.rules.specs.Lists.{erase, keepLive, liveCodes, copyTo, restore, compact, finish, recoverList}
-use Rattle.demands.specs.Terms.{Given, Fair, Map, recovered}
-use Rattle.demands.specs.Stages.{made-append, after, after-then, fair-append}
+use Rattle.rules.specs.Walk.{Item, codes, items, stop, allBlank, isSound}
+use Rattle.rules.specs.Areas.{R, base, page, kind, free, unfinished, committed, recoveryOf, recovery, placed, pageEntries, entries, liveWords}
+use Rattle.rules.specs.Lists.{erase, keepLive, liveCodes, copyTo, restore, compact, finish}
+use Rattle.demands.specs.Terms.{Fair, Map, recovered}
+use Rattle.demands.specs.Stages.{after, after-then, fair-append}
 use Rattle.demands.specs.Pages.{blanks, image, Goods, no-item, good-item, goods-items, length-image, at-seal, items-image, kind-image, stop-image, words-image}
-use Rattle.demands.specs.Runs.{same-or-not, words-left, words-right, words-append, words-page, right-at, page-in, length-page, Only, only-self, only-as, only-trans, only-same, turns-wipe}
+use Rattle.demands.specs.Runs.{same-or-not, words-left, words-right, words-append, words-page, page-in, length-page, Only, only-self, only-as, only-trans, only-same, turns-wipe}
 use Rattle.demands.specs.Entries.{look, look-kept, twice-kept, live-append, live-kept, live-same}
 use Rattle.demands.specs.Layout.{before, behind, entries-split, entries-only}
-use Rattle.demands.specs.Mending.{given-made, shape-of, free-blank, Settled, Stands, stands-by, stands-settled, stands-look, mended-only, settled-page, mendAndDrop}
-use Rattle.demands.specs.Finishing.{meta-low, copied, part, Undamaged, undamaged-by, mended-undamaged, Restored, restored, finish-resumes, finish-fair, recovered-by}
+use Rattle.demands.specs.Mending.{given-made, shape-of, free-blank, Settled, Stands, stands-by, stands-settled, stands-look, mended-only, settled-page}
+use Rattle.demands.specs.Finishing.{meta-low, copied, part, Undamaged, undamaged-by, restored, finish-resumes, finish-fair, recovered-by}
 use Rattle.demands.specs.Room.{copy-length}
 
 -- ---- R

@@ -1,10 +1,10 @@
 -- What is claimed of the manager's crash-safety, and where it is proved. The claims are of document 01's definitions (crate `rules`); `Terms` has
 -- the few words that they are stated in. Each holds for every flash f of 32-bit words and every area a of right geometry on it: N from 1
 -- to 255, the three page sizes. Assumes nothing.
-use mathlib.Core.Path.{_≡_, refl, ap, sym, _∙_, subst}
+use mathlib.Core.Path.{_≡_, refl, ap, sym, _∙_}
 use mathlib.Core.Logic.{⊎-elim, _⊎_, inl, inr, _≢_}
 use mathlib.Core.List.{List, [], _∷_, List·Permᴰ, List·Permᴰ·swap}
-use mathlib.Core.Bool.{Bool, true, false}
+use mathlib.Core.Bool.{true, false}
 use mathlib.Core.Option.{Option, some, none}
 use Prim.Native.Nat.{ℕ, suc, _+_, _*_, _≤_, _<_}
 use native.Mathlib.Omega.{arith}

@@ -3,7 +3,7 @@
 use mathlib.Core.Path.{_≡_, refl, ap, sym, _∙_}
 use mathlib.Core.Logic.{⊎-elim, _⊎_, inl, inr}
 use mathlib.Core.List.{List, [], _∷_, _++_, nil≢cons, head-eq-of-cons-eq, tail-eq-of-cons-eq}
-use mathlib.Core.Bool.{Bool, true, false, cond, _&&_, _||_, or-true, true≢false}
+use mathlib.Core.Bool.{Bool, true, false, cond, _&&_, or-true, true≢false}
 use mathlib.Core.Option.{Option, some, none}
 use Prim.Native.Nat.{ℕ, _+_}
 use native.Mathlib.Omega.{arith}
@@ -277,10 +277,6 @@ any-stays h x e y d = go (liveOf h e) refl
         let z : anyOf (liveOf h) y ≡ true = rw (k .1) at d in
         any-skip (liveOf h) x (zeroed e) y (zeroed-dead h e) ∙ any-right (liveOf h) x y z ∙ sym (any-at (liveOf h) x e y p)
     go false p = any-skip (liveOf h) x (zeroed e) y (zeroed-dead h e) ∙ sym (any-skip (liveOf h) x e y p)
-
-last-none : (h : ℕ) (x : List Entry) → anyOf (liveOf h) x ≡ false → lastLive h x ≡ none
-last-none h [] q = refl
-last-none h (c ∷ x) q = rw (nor-right (liveOf h c) _ q, nor-left (liveOf h c) _ q)
 
 -- with no handle live twice it is the only one
 pub once-last : (h : ℕ) (x : List Entry) → twice x ≡ false → find h x ≡ lastLive h x

@@ -2,29 +2,29 @@
 -- area. Assumes nothing.
 use mathlib.Core.Path.{_≡_, refl, ap, sym, _∙_, subst}
 use mathlib.Core.Logic.{⊎-elim, _⊎_, _≢_}
-use mathlib.Core.List.{List, [], _∷_, _++_, append-assoc, append-nil}
-use mathlib.Core.Bool.{Bool, true, false, cond, not, _&&_, _||_, true≢false}
+use mathlib.Core.List.{List, [], _∷_, _++_, append-assoc}
+use mathlib.Core.Bool.{Bool, true, false, cond, _&&_, _||_, true≢false}
 use Prim.Native.Nat.{ℕ, suc, zero, _+_, _-_, _≤_, _<_, zero-le}
 use native.Mathlib.Omega.{arith}
 use lib.ListN.{length, getD, take, drop, length-append, length-take, length-replicate, replicate-append-replicate}
 use lib.Seq.{take-all, take-at, take-append-le, take-append-add}
 use lib.Dec.{eqb, ltb}
 use borrow.Author.Tests.{not-false, eq-eqb, ne-eqb, ltb-true}
-use Rattle.flash.specs.Stores.{blank, Words, none, more, Store, put, apply, made, madeFirst, puts, _then_}
-use Rattle.flash.specs.Laws.{le-or-lt, first-none, first-all, first-nil}
+use Rattle.flash.specs.Stores.{blank, Words, none, more, Store, put, apply, made, madeFirst, puts}
+use Rattle.flash.specs.Laws.{le-or-lt, first-none, first-all}
 use Rattle.rules.specs.declared.Area.{Area}
 use Rattle.rules.specs.Words.{meta0, meta1, indexOf, seal}
-use Rattle.rules.specs.Walk.{Item, codes, items, stop, allBlank, sealed, kindOf, isSealed, isSound}
+use Rattle.rules.specs.Walk.{codes, items, stop, allBlank, sealed, kindOf, isSealed, isSound}
 use Rattle.rules.specs.Areas.{R, base, page, kind, every, Recovery, free, unfinished, committed, damage, recoveryOf, recovery, isDamage, names, entries, find, damaged, ready}
-use Rattle.rules.specs.Lists.{erase, copyTo, restore, finishAs, finish, dropDoubles, recoverList}
+use Rattle.rules.specs.Lists.{erase, copyTo, finish, dropDoubles, recoverList}
 use Rattle.rules.specs.Laws.{and-left, and-right, nor-left, nor-right}
 use Rattle.demands.specs.Terms.{Given, Fair, fair-end, Map, recovered, lastLive}
 use Rattle.demands.specs.Stages.{made-append, after, after-then, fair-append, Resumes, then-resumes, peels-resumes, peels-ends, peels-fair}
-use Rattle.demands.specs.Pages.{blanks, image, length-image, goods-items, at-seal, kind-image, stop-image, sealed-shape, is-sealed, words-image}
+use Rattle.demands.specs.Pages.{blanks, image, length-image, goods-items, at-seal, stop-image, sealed-shape, is-sealed, words-image}
 use Rattle.demands.specs.Runs.{same-or-not, over-blank, take-puts, length-puts, words-take, words-append, words-left, words-page, page-in, length-page, Only, only-self, only-as, only-trans, only-same, Turns, turns-none, turns-as, turns-then, turns-put, turns-fill, turns-wipe, every-true, true-every}
 use Rattle.demands.specs.Entries.{supersede-none, once-last}
 use Rattle.demands.specs.Layout.{entries-spare}
-use Rattle.demands.specs.Mending.{given-made, shape-of, free-blank, Mended, Settled, Stands, stands-settled, mended-free, mended-sound, ready-settled, drop-keeps-last, mendAll, mendAndDrop, later-peels, later-ready, settled-mends}
+use Rattle.demands.specs.Mending.{given-made, shape-of, free-blank, Mended, Settled, Stands, stands-settled, mended-free, mended-sound, ready-settled, drop-keeps-last, mendAndDrop, later-peels, later-ready, settled-mends}
 
 -- ---- words copied to a blank page
 pub meta-low : (n i : ℕ) → i < n → n ≤ 255 → meta1 n i < blank

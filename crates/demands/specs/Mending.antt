@@ -1,23 +1,22 @@
 -- Areas whose R is free: what makes them ready, an entry invalidated, and recovery's steps (b) and (c), which cut anywhere go on with
 -- the stores that are left. Assumes nothing.
 use mathlib.Core.Path.{_≡_, refl, ap, sym, _∙_, subst}
-use mathlib.Core.Logic.{⊎-elim, _⊎_, inl, inr, _≢_}
-use mathlib.Core.List.{List, [], _∷_, _++_, append-assoc, append-nil, nil≢cons, head-eq-of-cons-eq, tail-eq-of-cons-eq}
+use mathlib.Core.Logic.{⊎-elim, _≢_}
+use mathlib.Core.List.{List, [], _∷_, _++_, nil≢cons, head-eq-of-cons-eq, tail-eq-of-cons-eq}
 use mathlib.Core.Bool.{Bool, true, false, cond, not, _&&_, and-false, false≢true}
-use mathlib.Core.Option.{Option, some, none}
-use Prim.Native.Nat.{ℕ, suc, zero, _+_, _-_, _≤_, _<_, zero-le}
+use mathlib.Core.Option.{Option, some}
+use Prim.Native.Nat.{ℕ, suc, _+_, _≤_, _<_, zero-le}
 use native.Mathlib.Omega.{arith}
 use native.Mathlib.Nat.{eq-or-lt-of-le, le-of-suc-le-suc, le-refl}
 use lib.ListN.{length, getD, length-append}
-use lib.Bits.{bitAnd}
 use lib.Dec.{eqb, ltb}
-use borrow.Author.Tests.{not-true, not-false, ne-eqb, lt-ltb, ltb-true}
-use Rattle.flash.specs.Stores.{blank, Words, Store, put, stored, apply, made, madeFirst, Step, _then_, each}
+use borrow.Author.Tests.{not-true, not-false}
+use Rattle.flash.specs.Stores.{blank, Store, put, apply, made, Step, _then_, each}
 use Rattle.flash.specs.Laws.{words-made, length-made}
 use Rattle.rules.specs.declared.Area.{Area}
-use Rattle.rules.specs.Words.{meta1, indexOf, header, special, isLive, seal}
+use Rattle.rules.specs.Words.{indexOf, header, isLive, seal}
 use Rattle.rules.specs.Walk.{Item, entryLength, codes, items, stop, allBlank, Kind, sealed, torn, neither, kindOf, isSealed, isSound}
-use Rattle.rules.specs.Areas.{R, base, page, kind, every, Recovery, free, unfinished, committed, damage, recoveryOf, recovery, isFree, names, Entry, placed, pageEntries, entries, twice, damaged, ready, mapOf, liveWords}
+use Rattle.rules.specs.Areas.{R, base, page, kind, every, Recovery, free, unfinished, committed, damage, recoveryOf, recovery, isFree, Entry, placed, pageEntries, entries, twice, damaged, ready, mapOf, liveWords}
 use Rattle.rules.specs.Refusals.{unready}
 use Rattle.rules.specs.Lists.{bare, lastOf, bareIfLive, mend, supersede, dropDoubles}
 use Rattle.rules.specs.Laws.{and-left, and-right}
@@ -26,7 +25,7 @@ use Rattle.demands.specs.Stages.{after, Peels, then-peels, each-peels, e
 use Rattle.demands.specs.Pages.{blanks, item, image, Good, Goods, no-item, good-item, goods-append, goods-left, goods-right, goods-head, goods-items, bare-header, header-dead, at-seal, at-blank, blank-all, all-blank, items-image, kind-image, stop-image, sealed-shape, torn-shape, is-sealed, codes-append, front, length-front, image-front, image-at}
 use Rattle.demands.specs.Runs.{same-or-not, Right, right, right-wrong, page-in, length-page, Only, Turns, turns-as, turns-then, turns-put, every-true, true-every}
 use Rattle.demands.specs.Entries.{zeroed, look, none-supersede, supersede-first, last-stays}
-use Rattle.demands.specs.Layout.{entryAt, placed-append, Located, located}
+use Rattle.demands.specs.Layout.{entryAt, placed-append, located}
 
 pub given-made : {a : Area} {f : List ℕ} (ss : List Store) → Given a f → Given a (made ss f)
 given-made {a} {f} ss g = record { words = words-made ss (g .words); right = right-wrong a f (made ss f) (g .right) (length-made ss f) }

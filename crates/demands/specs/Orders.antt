@@ -2,22 +2,20 @@
 -- all changes made; their answers are right; and their order does not matter. Assumes nothing.
 use mathlib.Core.Path.{_≡_, refl, ap, ap₂, sym, _∙_, fun-ext, subst}
 use mathlib.Core.List.{List, [], _∷_, List·Permᴰ, List·Permᴰ·nil, List·Permᴰ·cons, List·Permᴰ·swap, List·Permᴰ·trans}
-use mathlib.Core.Bool.{Bool, true, false, true≢false, false≢true}
+use mathlib.Core.Bool.{Bool, true, false, false≢true}
 use mathlib.Core.Option.{none}
-use mathlib.Core.Logic.{_≢_, Ne·symm, ⊎-elim}
+use mathlib.Core.Logic.{_≢_, Ne·symm}
 use Prim.Native.Nat.{ℕ, _+_, _≤_, _<_, zero-le}
 use native.Mathlib.Omega.{arith}
 use native.Mathlib.Nat.{le-refl}
 use lib.ListN.{length}
 use lib.Dec.{eqb}
-use borrow.Author.Tests.{eqb-true, ne-eqb, le-leb, lt-leb}
-use Rattle.flash.specs.Stores.{Store, made, madeFirst}
-use Rattle.flash.specs.Laws.{le-or-lt, first-all, first-nil}
+use borrow.Author.Tests.{eqb-true, ne-eqb, le-leb}
+use Rattle.flash.specs.Stores.{Store, made}
+use Rattle.flash.specs.Laws.{first-all, first-nil}
 use Rattle.rules.specs.declared.Area.{Area}
 use Rattle.rules.specs.declared.Answer.{Answer}
-use Rattle.rules.specs.declared.Refusal.the-variants.{NotFound}
-use Rattle.rules.specs.Areas.{mapOf}
-use Rattle.rules.specs.Refusals.{areaQuota, refuse, list, outcomeOf}
+use Rattle.rules.specs.Refusals.{areaQuota, list, outcomeOf}
 use Rattle.rules.specs.Lists.{Request, delete, planOf}
 use Rattle.demands.specs.Terms.{Proper, handleIn, dataIn, newWords, Map, changed, changedAll, newWordsAll, wasCut, run, Recovers, Carried, uncut, asked-again, CarriedAll, no-more, and-then, ProperAll, Others, AllDiffer, Fine, FineAll}
 use Rattle.demands.specs.Mending.{Stands}

@@ -1,20 +1,19 @@
 -- One page: written out as its entries and the words behind them, it walks to those entries and stops there, and every sealed or torn
 -- page is so written. Assumes nothing.
-use mathlib.Core.Path.{_≡_, refl, ap, sym, _∙_, subst}
+use mathlib.Core.Path.{_≡_, refl, ap, sym, _∙_}
 use mathlib.Core.List.{List, [], _∷_, _++_, append-assoc, append-nil}
-use mathlib.Core.Bool.{Bool, true, false, cond, _&&_, false≢true}
-use Prim.Native.Nat.{ℕ, suc, zero, _+_, _-_, _*_, _/_, _%_, _^_, _≤_, _<_, zero-le, suc-le-suc}
+use mathlib.Core.Bool.{Bool, true, false, cond, false≢true}
+use Prim.Native.Nat.{ℕ, suc, zero, _+_, _-_, _*_, _^_, _≤_, _<_, zero-le, suc-le-suc}
 use native.Mathlib.Omega.{arith}
-use lib.ListN.{length, getD, take, drop, replicate, length-append, length-take, length-replicate, take-append-drop}
+use lib.ListN.{length, getD, take, drop, replicate, length-append, length-take, take-append-drop}
 use lib.Seq.{take-at}
 use lib.Bits.{bitAnd, and-block, and-self, and-zero-r}
 use lib.Dec.{leb, ltb, eqb}
 use borrow.Author.Tests.{ltb-true, leb-true, eqb-true, lt-ltb, le-leb, eq-eqb}
-use Rattle.flash.specs.Stores.{blank, Words, none, more}
+use Rattle.flash.specs.Stores.{blank, Words, more}
 use Rattle.rules.specs.Words.{longest, meta0, meta1, header, handleOf, lengthOf, special, seal}
-use Rattle.rules.specs.Walk.{Item, entryLength, codes, begins, Walked, taken, walkIn, items, rest, stop, allBlank, Kind, sealed, torn, neither, endKind, metaRight, kindOf, isSealed}
+use Rattle.rules.specs.Walk.{Item, entryLength, codes, begins, Walked, walkIn, items, rest, stop, allBlank, Kind, sealed, torn, neither, endKind, metaRight, kindOf, isSealed}
 use Rattle.rules.specs.Laws.{and-left, and-right}
-use Rattle.demands.specs.Terms.{Given}
 
 abbrev pub blanks : ℕ → List ℕ
 blanks n = replicate n blank

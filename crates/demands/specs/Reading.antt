@@ -2,7 +2,7 @@
 -- Assumes nothing.
 use mathlib.Core.Path.{_≡_, refl, ap, ap₂, sym, _∙_, subst}
 use mathlib.Core.List.{List, [], _∷_, _++_, append-assoc}
-use mathlib.Core.Bool.{Bool, true, false, cond, not, _&&_, and-false, true≢false}
+use mathlib.Core.Bool.{Bool, true, false, _&&_, and-false, true≢false}
 use mathlib.Core.Option.{Option, some, none}
 use Prim.Native.Nat.{ℕ, suc, zero, _+_, _^_, _≤_, _<_}
 use native.Mathlib.Omega.{arith}
@@ -11,16 +11,15 @@ use lib.ListN.{length, getD, take, drop, length-append, take-append-drop}
 use lib.Seq.{length-take-le, take-at, getD-at, drop-append-add}
 use lib.Bits.{bitAnd, and-mask}
 use lib.Dec.{ltb, eqb}
-use borrow.Author.Tests.{ltb-true, lt-ltb, eqb-true, eq-eqb, not-false}
+use borrow.Author.Tests.{ltb-true, lt-ltb, eqb-true, eq-eqb}
 use Rattle.rules.specs.declared.Area.{Area}
-use Rattle.rules.specs.declared.Refusal.{Refusal}
 use Rattle.rules.specs.declared.Refusal.the-variants.{NotFound}
 use Rattle.rules.specs.declared.Reading.{Reading}
 use Rattle.rules.specs.declared.Yielded.{Yielded}
 use Rattle.rules.specs.Words.{header, special, isLive, seal}
 use Rattle.rules.specs.Walk.{Item, entryLength, codes, items}
-use Rattle.rules.specs.Areas.{base, page, Entry, placed, entriesFrom, entries, firstOf, liveOf, twice, find, dataOf, mapOf, damaged, ready}
-use Rattle.rules.specs.Refusals.{unready, badHandle, isNone, checked, findChecks}
+use Rattle.rules.specs.Areas.{base, page, Entry, placed, entriesFrom, entries, firstOf, liveOf, twice, find, dataOf, mapOf, ready}
+use Rattle.rules.specs.Refusals.{badHandle, isNone, findChecks}
 use Rattle.rules.specs.Search.{placeOf, dataLength, readOf, matches, next, badPlace, searchChecks, searchOf}
 use Rattle.rules.specs.Laws.{and-left, and-right, passed-checked, checked-passed}
 use Rattle.demands.specs.Terms.{Given, StandsAt}
@@ -131,15 +130,6 @@ grow-behind (d ∷ mid) c suf (step l g) = let k = grow-behind mid c suf g in om
 grow-entries : {a : Area} {f : List ℕ} → Settled a f → (x : List Entry) → entries a f ≡ x → Grow (base a 0) x (base a (0 + a .pages))
 unfolding entries
 grow-entries {a} s x q = subst (λ (y : List Entry). Grow (base a 0) y (base a (0 + a .pages))) q (grow-from s (a .pages) 0 (omega arith))
-
-grow-apart : {lo hi : ℕ} (pre : List Entry) (e : Entry) (mid : List Entry) (c : Entry) (suf : List Entry)
-    → Grow lo (pre ++ e ∷ (mid ++ c ∷ suf)) hi → e .place < c .place
-grow-apart [] e mid c suf (step l g) = grow-behind mid c suf g
-grow-apart (d ∷ pre) e mid c suf (step l g) = grow-apart pre e mid c suf g
-
-pub places-grow : {a : Area} {f : List ℕ} → Settled a f → (pre : List Entry) (e : Entry) (mid : List Entry) (c : Entry) (suf : List Entry)
-    → entries a f ≡ pre ++ e ∷ (mid ++ c ∷ suf) → e .place < c .place
-places-grow s pre e mid c suf q = grow-apart pre e mid c suf (grow-entries s _ q)
 
 -- ---- the first entry that passes a test
 held : (o : Option Entry) → isNone o ≡ false → (e : Entry) × (o ≡ some e)

@@ -1,17 +1,17 @@
 -- Writes and deletes as they are asked for: every list of stores that a plan gives is fair, makes the change that was asked, and cut
 -- anywhere is recovered to the map from before or to the map from after; and the two facts that demand 3 follows from. Assumes nothing.
 use mathlib.Core.Path.{_≡_, refl, ap, sym, _∙_, subst}
-use mathlib.Core.Logic.{⊎-elim, _⊎_, inl, inr}
+use mathlib.Core.Logic.{⊎-elim, inl, inr}
 use mathlib.Core.List.{List, [], _∷_, _++_}
 use mathlib.Core.Bool.{Bool, true, false, cond, not, _&&_, true≢false, false≢true}
 use mathlib.Core.Option.{Option, some, none}
-use Prim.Native.Nat.{ℕ, suc, zero, _+_, _-_, _*_, _≤_, _<_, zero-le}
+use Prim.Native.Nat.{ℕ, suc, zero, _+_, _-_, _*_, _≤_, _<_}
 use native.Mathlib.Omega.{arith}
 use native.Mathlib.Nat.{le-refl}
 use lib.ListN.{length, length-append}
-use lib.Dec.{leb, ltb, eqb}
-use borrow.Author.Tests.{eqb-true, eq-eqb, leb-true, leb-false, ltb-false, le-ltb, le-leb, lt-leb}
-use Rattle.flash.specs.Stores.{Words, Store, apply, made, madeFirst, _then_}
+use lib.Dec.{leb, eqb}
+use borrow.Author.Tests.{eqb-true, eq-eqb, leb-false, ltb-false, le-ltb, le-leb, lt-leb}
+use Rattle.flash.specs.Stores.{Store, apply, made, madeFirst, _then_}
 use Rattle.flash.specs.Laws.{le-or-lt, first-none, first-all, first-nil, first-then}
 use Rattle.rules.specs.declared.Area.{Area}
 use Rattle.rules.specs.declared.Refusal.{Refusal}
@@ -19,10 +19,10 @@ use Rattle.rules.specs.declared.Refusal.the-variants.{NotFound}
 use Rattle.rules.specs.Words.{special, isLive, lastSeal}
 use Rattle.rules.specs.Walk.{entryLength, stop}
 use Rattle.rules.specs.Areas.{page, Entry, pageEntries, entries, twice, find, dataOf, mapOf, liveWords, ready}
-use Rattle.rules.specs.Refusals.{checked, badHandle, badLength, isNone, sameWords, isData, holds, areaQuota, noRoom, recoverChecks, writeChecks, findChecks, Plan, refuse, list, outcomeOf}
+use Rattle.rules.specs.Refusals.{checked, badHandle, isNone, sameWords, isData, holds, areaQuota, noRoom, recoverChecks, writeChecks, findChecks, Plan, refuse, list, outcomeOf}
 use Rattle.rules.specs.Lists.{bare, bareIf, deleteList, deletePlan, compact, roomPage, compactPage, append, appendCompacted, appendTo, writeList, writePlan, recoverList, recoverPlan, Request, format, recover, write, delete, planOf}
 use Rattle.rules.specs.Laws.{and-left, and-right, nor-left, nor-right, Passed, passed-checked, checked-passed}
-use Rattle.demands.specs.Terms.{Given, Fair, fair-end, appendStores, WriteStores, held, appended, compacted, Change, Proper, handleIn, newWords, Map, changed, wasCut, run, recovered, Recovers, whole, after-cut}
+use Rattle.demands.specs.Terms.{Fair, fair-end, appendStores, WriteStores, held, appended, compacted, Change, Proper, handleIn, newWords, Map, changed, wasCut, run, recovered, Recovers, whole, after-cut}
 use Rattle.demands.specs.Stages.{after-then, fair-append}
 use Rattle.demands.specs.Entries.{zeroed, twice-skip, once-drop, look-drop, live-skip, live-at, find-some, look}
 use Rattle.demands.specs.Mending.{shape-of, Stands, stands-by, stands-settled, stands-look, ready-sound, ready-passed, passed-ready, invalidate}
@@ -344,12 +344,6 @@ pub data Left (a : Area) (r : Request) (m : Map) (n : ℕ) (g : List ℕ) : Type
   after : Stands a (changed r m) (n + newWords r) g → planOf a r g ≡ list [] → Left a r m n g
 
 module _ (a : Area) where
-  proper-change : (r : Request) → Proper r → Change r
-  proper-change format p = absurd p
-  proper-change recover p = absurd p
-  proper-change (write h d) p = p .2
-  proper-change (delete h) p = tt
-
   pub plans : (r : Request) (m : Map) (n : ℕ) (f : List ℕ) → Proper r → Stands a m n f → n + newWords r ≤ areaQuota a → Planned a r m n f
   plans format m n f p s q = absurd p
   plans recover m n f p s q = absurd p

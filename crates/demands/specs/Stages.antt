@@ -7,9 +7,9 @@ use Prim.Native.Nat.{ℕ, suc, zero, _+_, _-_, _≤_, _<_}
 use native.Mathlib.Omega.{arith}
 use native.Mathlib.Nat.{eq-or-lt-of-le}
 use lib.ListN.{length, take, drop, take-append-drop}
-use lib.Seq.{take-nil, take-length, drop-length}
-use Rattle.flash.specs.Stores.{Store, put, wipe, apply, made, madeFirst, Step, _then_, each}
-use Rattle.flash.specs.Laws.{le-or-lt, first-none, first-all, first-nil, first-then}
+use lib.Seq.{take-length, drop-length}
+use Rattle.flash.specs.Stores.{Store, apply, made, madeFirst, Step, _then_, each}
+use Rattle.flash.specs.Laws.{le-or-lt, first-none, first-all, first-then}
 use Rattle.demands.specs.Terms.{Fair, fair-end, fair-put, fair-wipe}
 
 pub made-append : (x y : List Store) (f : List ℕ) → made (x ++ y) f ≡ made y (made x f)

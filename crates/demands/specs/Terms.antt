@@ -11,7 +11,6 @@ use lib.Dec.{eqb}
 use Rattle.flash.specs.Stores.{Words, Store, put, wipe, stored, wiped, made}
 use Rattle.rules.specs.declared.Area.{Area}
 use Rattle.rules.specs.declared.Answer.{Answer}
-use Rattle.rules.specs.declared.Refusal.{Refusal}
 use Rattle.rules.specs.declared.Refusal.the-variants.{NotFound}
 use Rattle.rules.specs.Words.{header}
 use Rattle.rules.specs.Walk.{entryLength}
