@@ -24,7 +24,7 @@ use Rattle.rules.specs.Areas.{page, kind, committed, recovery, entries, twice, 
 use Rattle.rules.specs.Refusals.{badHandle, areaQuota, formatChecks, recoverChecks, writeChecks, findChecks, list}
 use Rattle.rules.specs.Lists.{formatList, deleteList, compact, roomPage, compactPage, writeList, recoverList, Request, format, recover, write, delete, planOf}
 use Rattle.rules.specs.Search.{readOf, badPlace, searchOf}
-use Rattle.demands.specs.Terms.{Given, Fair, WriteStores, Typed, Change, Proper, handleIn, newWords, Map, changed, changedAll, newWordsAll, Holds, run, recovered, Recovers, Carried, CarriedAll, ProperAll, AllDiffer, FineAll, StandsAt, lastLive}
+use Rattle.demands.specs.Terms.{Given, Fair, WriteStores, Typed, Change, Proper, handleIn, newWords, Map, changed, changedAll, newWordsAll, Holds, run, recovered, Recovers, Tried, Carried, CarriedAll, ProperAll, AllDiffer, FineAll, StandsAt, lastLive}
 use Rattle.demands.specs.Entries.{once-last}
 use Rattle.demands.specs.Mending.{shape-of, Stands, ready-stands, ready-sound}
 use Rattle.demands.specs.Finishing.{Undamaged, recover-resumes, recover-fair, recover-ready, ready-rests, recovered-last}
@@ -32,8 +32,8 @@ use Rattle.demands.specs.Format.{format-fair, format-ready, format-empty
 use Rattle.demands.specs.Room.{compact-page, compact-exists}
 use Rattle.demands.specs.Compacting.{packed-stands, packed-room}
 use Rattle.demands.specs.Reading.{read-held, read-absent, held-read, search-yields, search-skips-none, search-read}
-use Rattle.demands.specs.Requests.{Changes, listed, delete-list, write-counts, write-most, changes, change-ready, run-safe, recover-planned, recovers-ends, recover-exists}
-use Rattle.demands.specs.Orders.{carried-all, reordered, carry-exists}
+use Rattle.demands.specs.Requests.{Changes, listed, delete-list, write-counts, write-most, changes, change-ready, run-safe, recover-planned, recovers-ends, recover-exists, Left, before, after}
+use Rattle.demands.specs.Orders.{tried, carried-all, reordered, carry-exists}
 
 module _ {a : Area} {f : List ℕ} (given : Given a f) where
   -- the terms of the proofs for those of the claims
@@ -190,6 +190,15 @@ module _ {a : Area} {f : List ℕ} (given : Given a f) where
         all-made e (r ∷ (q ∷ [])) (p, (o, tt)) differ z xs g c .0,
         any-order e (r ∷ (q ∷ [])) (q ∷ (r ∷ [])) (List·Permᴰ·swap refl refl) (p, (o, tt)) differ z ys k b .0,
       )
+
+  -- After each cut and full recovery of a request that is being carried through, the map is the one from before or the one from after it.
+  pub after-each-cut : ready a f ≡ true → (r : Request) → Proper r → liveWords (entries a f) + newWords r ≤ areaQuota a → (g : List ℕ) → Tried a r f g
+      → Holds a g (mapOf a f) ⊎ Holds a g (changed r (mapOf a f))
+  after-each-cut e r p q g t = go (tried a r (mapOf a f) (liveWords (entries a f)) f p (stands e) q g t)
+    where
+      go : Left a r (mapOf a f) (liveWords (entries a f)) g → Holds a g (mapOf a f) ⊎ Holds a g (changed r (mapOf a f))
+      go (before s) = inl (holds s)
+      go (after s c) = inr (holds s)
 
   -- They can be carried through: no cut shuts the way.
   pub can-recover : damaged a f ≡ false → (g : List ℕ) × Recovers a f g

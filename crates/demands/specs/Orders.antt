@@ -17,7 +17,7 @@ use Rattle.rules.specs.declared.Area.{Area}
 use Rattle.rules.specs.declared.Answer.{Answer}
 use Rattle.rules.specs.Refusals.{areaQuota, list, outcomeOf}
 use Rattle.rules.specs.Lists.{Request, delete, planOf}
-use Rattle.demands.specs.Terms.{Proper, handleIn, dataIn, newWords, Map, changed, changedAll, newWordsAll, wasCut, run, Recovers, Carried, uncut, asked-again, CarriedAll, no-more, and-then, ProperAll, Others, AllDiffer, Fine, FineAll}
+use Rattle.demands.specs.Terms.{Proper, handleIn, dataIn, newWords, Map, changed, changedAll, newWordsAll, wasCut, run, Recovers, Tried, untried, cut-short, Carried, uncut, CarriedAll, no-more, and-then, ProperAll, Others, AllDiffer, Fine, FineAll}
 use Rattle.demands.specs.Mending.{Stands}
 use Rattle.demands.specs.Requests.{stands-as, uncut-list, cut-list, Planned, stores, absent, Left, before, after, plans, leaves}
 
@@ -82,10 +82,13 @@ all-changes _ _ (List·Permᴰ·swap {a = a} {b = b} {l = l} e d) o m u =
 all-changes _ _ (List·Permᴰ·trans {l₁ = l₁} {l₂ = l₂} {l₃ = l₃} p q) o m u = all-changes l₁ l₂ p o m u ∙ all-changes l₂ l₃ q (perm-differ p o) m u
 
 -- ---- answers
--- a request that has nothing to do is never cut
-nothing-done : {a : Area} {r : Request} {f g : List ℕ} {x : Answer} → planOf a r f ≡ list [] → Carried a r f x g → (g ≡ f) × (x ≡ Answer.Done 0)
-nothing-done e (uncut {f} k c) = rw e (first-nil k f, rw (le-leb 0 k zero-le) refl)
-nothing-done e (asked-again {f} k c _ _) = let l : k < 0 = cut-list [] k f (rw e at c) in absurd (let z : ⊥ = omega arith in z)
+-- a request that has nothing to do is never cut, and leaves the flash
+nothing-tried : {a : Area} {r : Request} {f g : List ℕ} → planOf a r f ≡ list [] → Tried a r f g → g ≡ f
+nothing-tried e untried = refl
+nothing-tried e (cut-short {f} k c _ _) = let l : k < 0 = cut-list [] k f (rw e at c) in absurd (let z : ⊥ = omega arith in z)
+
+nothing-run : (a : Area) (r : Request) (k : ℕ) (f : List ℕ) → planOf a r f ≡ list [] → (run a r k f .flash ≡ f) × (run a r k f .answer ≡ Answer.Done 0)
+nothing-run a r k f e = rw e (first-nil k f, rw (le-leb 0 k zero-le) refl)
 
 -- what is right for a changed map was so before, on another handle
 fine-before : (r q : Request) (m : Map) (x : Answer) → handleIn q ≢ handleIn r → Fine (changed r m) q x → Fine m q x
@@ -131,16 +134,22 @@ module _ (a : Area) where
   cut-leaves r m n f p s q (absent e d z) k c g v = absurd (false≢true (rw e at c))
 
   -- a request, however often it is cut, recovered and asked again
+  pub tried : (r : Request) (m : Map) (n : ℕ) (f : List ℕ) → Proper r → Stands a m n f → n + newWords r ≤ areaQuota a → (g : List ℕ) → Tried a r f g → Left a r m n g
+  tried r m n f p s q _ untried = before s
+  tried r m n f p s q g (cut-short {g = h} k c v t) = left (cut-leaves r m n f p s q (plans a r m n f p s q) k c h v) (λ y. tried r m n h p y q g t)
+    where
+      left : Left a r m n h → (Stands a m n h → Left a r m n g) → Left a r m n g
+      left (before y) again = again y
+      left (after y e) again = subst (Left a r m n) (sym (nothing-tried e t)) (after y e)
+
+  -- and at last not cut
   pub carried : (r : Request) (m : Map) (n : ℕ) (f : List ℕ) → Proper r → Stands a m n f → n + newWords r ≤ areaQuota a
       → (x : Answer) (g : List ℕ) → Carried a r f x g → Stands a (changed r m) (n + newWords r) g × Fine m r x
-  carried r m n f p s q _ _ (uncut k c) = uncut-stands r m n f s (plans a r m n f p s q) k c
-  carried r m n f p s q x g (asked-again {g = h} k c v t) =
-      left (cut-leaves r m n f p s q (plans a r m n f p s q) k c h v) (λ y. carried r m n h p y q x g t)
+  carried r m n f p s q _ _ (uncut {g = h} k t c) = left (tried r m n f p s q h t)
     where
-      left : Left a r m n h → (Stands a m n h → Stands a (changed r m) (n + newWords r) g × Fine m r x)
-          → Stands a (changed r m) (n + newWords r) g × Fine m r x
-      left (before y) again = again y
-      left (after y e) again = let z = nothing-done e t in rw (z .0, z .1) (y, tt)
+      left : Left a r m n h → Stands a (changed r m) (n + newWords r) (run a r k h .flash) × Fine m r (run a r k h .answer)
+      left (before y) = uncut-stands r m n h y (plans a r m n h p y q) k c
+      left (after y e) = let z = nothing-run a r k h e in rw (z .0, z .1) (y, tt)
 
   -- several requests; an answer is right for the map as it was before all of them
   pub carried-all : (rs : List Request) (m : Map) (n : ℕ) (f : List ℕ) → ProperAll rs → AllDiffer rs → Stands a m n f
@@ -167,5 +176,5 @@ module _ (a : Area) where
   carry-exists r m n f p s q = go (plans a r m n f p s q)
     where
       go : Planned a r m n f → (x : Answer) × (g : List ℕ) × Carried a r f x g
-      go (stores ss e t) = (run a r (length ss) f .answer, run a r (length ss) f .flash, uncut {f = f} (length ss) (rw (e, le-leb (length ss) (length ss) (le-refl (length ss)))))
-      go (absent e d z) = (run a r 0 f .answer, run a r 0 f .flash, uncut {f = f} 0 (rw e))
+      go (stores ss e t) = (run a r (length ss) f .answer, run a r (length ss) f .flash, uncut {g = f} (length ss) untried (rw (e, le-leb (length ss) (length ss) (le-refl (length ss)))))
+      go (absent e d z) = (run a r 0 f .answer, run a r 0 f .flash, uncut {g = f} 0 untried (rw e))

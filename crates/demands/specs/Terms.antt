@@ -122,11 +122,14 @@ pub data Recovers (a : Area) : List ℕ → List ℕ → Type 0 where
   whole : {f : List ℕ} (k : ℕ) → wasCut (run a recover k f .answer) ≡ false → Recovers a f (run a recover k f .flash)
   after-cut : {f g : List ℕ} (k : ℕ) → wasCut (run a recover k f .answer) ≡ true → Recovers a (run a recover k f .flash) g → Recovers a f g
 
--- a request carried through: any number of times it is cut, recovered and asked again, until it is not cut and gives its answer
+-- a request cut any number of times, each time recovered before it is asked again
+pub data Tried (a : Area) (r : Request) : List ℕ → List ℕ → Type 0 where
+  untried : {f : List ℕ} → Tried a r f f
+  cut-short : {f g h : List ℕ} (k : ℕ) → wasCut (run a r k f .answer) ≡ true → Recovers a (run a r k f .flash) g → Tried a r g h → Tried a r f h
+
+-- a request carried through: so tried, and then not cut
 pub data Carried (a : Area) (r : Request) : List ℕ → Answer → List ℕ → Type 0 where
-  uncut : {f : List ℕ} (k : ℕ) → wasCut (run a r k f .answer) ≡ false → Carried a r f (run a r k f .answer) (run a r k f .flash)
-  asked-again : {f g h : List ℕ} {x : Answer} (k : ℕ) → wasCut (run a r k f .answer) ≡ true → Recovers a (run a r k f .flash) g
-      → Carried a r g x h → Carried a r f x h
+  uncut : {f g : List ℕ} (k : ℕ) → Tried a r f g → wasCut (run a r k g .answer) ≡ false → Carried a r f (run a r k g .answer) (run a r k g .flash)
 
 -- requests carried through one after the other, with their answers
 pub data CarriedAll (a : Area) : List Request → List ℕ → List Answer → List ℕ → Type 0 where
