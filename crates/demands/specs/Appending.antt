@@ -18,13 +18,13 @@ use Rattle.rules.specs.Walk.{Item, entryLength, codes, items, stop}
 use Rattle.rules.specs.Areas.{base, page, Entry, placed, entries, anyOf, liveOf, doubled, twice, find, liveWords}
 use Rattle.rules.specs.Lists.{bare, bareIf, append, mend, supersede, dropDoubles, write}
 use Rattle.rules.specs.Laws.{header-over-seal}
-use Rattle.demands.specs.Terms.{Given, Fair, fair-end, Map, changed, recovered}
+use Rattle.demands.specs.Terms.{Fair, fair-end, Map, changed, recovered}
 use Rattle.demands.specs.Stages.{made-append, after, after-then, fair-append}
 use Rattle.demands.specs.Pages.{blanks, item, image, Good, Goods, no-item, good-item, goods-append, goods-items, length-image, at-seal, at-blank, items-image, kind-image, stop-image, front, length-front, image-front, image-at}
-use Rattle.demands.specs.Runs.{take-puts, length-puts, words-take, words-append, page-in, length-page, Only, only-trans, Turns, turns-as, turns-then, turns-put, turns-fill}
+use Rattle.demands.specs.Runs.{shape-of, Usable, take-puts, length-puts, words-take, words-append, page-in, length-page, Only, only-trans, Turns, turns-as, turns-then, turns-put, turns-fill}
 use Rattle.demands.specs.Entries.{zeroed, zeroed-dead, look, live-mine, any-skip, any-at, find-some, find-none, once-insert, twice-skip, once-drop, once-apart, look-skip, look-add, look-other, live-skip, live-at, supersede-one, split-append}
 use Rattle.demands.specs.Layout.{entryAt, placed-append, before, behind, entries-split, entries-only}
-use Rattle.demands.specs.Mending.{given-made, shape-of, Mended, Settled, Stands, stands-by, stands-settled, stands-look, mended-only, settled-page, dead-good, Invalidated, invalidate, mend-last, mendAll, mend-one, settled-mends}
+use Rattle.demands.specs.Mending.{given-made, Mended, Settled, Stands, stands-by, stands-settled, stands-look, mended-only, settled-page, dead-good, Invalidated, invalidate, mend-last, mendAll, mend-one, settled-mends}
 use Rattle.demands.specs.Finishing.{mended-undamaged, Safe, recover-mended, recover-settled, stands-recovered}
 
 -- what is asked: a page with the room, a handle that entries may have, and data
@@ -170,7 +170,7 @@ module _ {a : Area} {m : Map} {n : ℕ} {f : List ℕ} (s : Stands a m n f) (i h
       stands-by (A ++ zeroed x ∷ B) t e (twice-skip A x B ∙ o) (λ u. look-skip u A x B ∙ ap (look u) (sym entries-old) ∙ stands-look s u) (rw (live-skip A x B) l)
 
   -- ---- cut before the new seal
-  module _ (g x : List ℕ) (lx : length x ≡ length d) (v : Given a g) (o : Only a f g i (image (a .pages) i (es ++ (item h x ∷ [])) (blank ∷ blanks left))) where
+  module _ (g x : List ℕ) (lx : length x ≡ length d) (v : Usable a g) (o : Only a f g i (image (a .pages) i (es ++ (item h x ∷ [])) (blank ∷ blanks left))) where
     gx : Goods (es ++ (item h x ∷ []))
     gx = good-with (item h x) (good-new x lx)
 
@@ -212,7 +212,7 @@ module _ {a : Area} {m : Map} {n : ℕ} {f : List ℕ} (s : Stands a m n f) (i h
   abbrev added : List ℕ
   added = made new f
 
-  added-both : Fair new f × Only a f added i full
+  added-both : Fair a new f × Only a f added i full
   added-both = whole .on f fits page-is
 
   gd : Goods (es ++ (item h d ∷ []))
@@ -252,7 +252,7 @@ module _ {a : Area} {m : Map} {n : ℕ} {f : List ℕ} (s : Stands a m n f) (i h
     done = apply (bare e) added
 
     record Replaced : Type 0 where
-      fair : Fair (bare e ∷ []) added
+      fair : Fair a (bare e ∷ []) added
       stands : Stands a m′ n′ done
       safe : Safe a m n m′ n′ added
 
@@ -331,10 +331,10 @@ module _ {a : Area} {m : Map} {n : ℕ} {f : List ℕ} (s : Stands a m n f) (i h
         (split-append A B (w .0) e (w .1) (sym entries-old ∙ w .2))
 
   -- ---- all of it
-  pub append-fair : Fair (append a h d i f) f
+  pub append-fair : Fair a (append a h d i f) f
   append-fair = fair-append (added-both .0) (go (find h (entries a f)) refl)
     where
-      go : (c : Option Entry) → find h (entries a f) ≡ c → Fair (bareIf c) added
+      go : (c : Option Entry) → find h (entries a f) ≡ c → Fair a (bareIf c) added
       go none e = fair-end
       go (some c) e = replaced c e .fair
 

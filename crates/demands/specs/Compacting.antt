@@ -6,6 +6,7 @@ use mathlib.Core.List.{List, [], _∷_, _++_, append-assoc}
 use mathlib.Core.Bool.{Bool, true, false, or-true}
 use Prim.Native.Nat.{ℕ, suc, _+_, _-_, _≤_, _<_, zero-le}
 use native.Mathlib.Omega.{arith}
+use native.Mathlib.Nat.{le-refl}
 use lib.ListN.{length, getD, take, drop, length-append}
 use lib.Seq.{take-at}
 use lib.Dec.{eqb}
@@ -20,10 +21,10 @@ use Rattle.rules.specs.Lists.{erase, keepLive, liveCodes, copyTo, restore, comp
 use Rattle.demands.specs.Terms.{Fair, Map, recovered}
 use Rattle.demands.specs.Stages.{after, after-then, fair-append}
 use Rattle.demands.specs.Pages.{blanks, image, Goods, no-item, good-item, goods-items, length-image, at-seal, items-image, kind-image, stop-image, words-image}
-use Rattle.demands.specs.Runs.{same-or-not, words-left, words-right, words-append, words-page, page-in, length-page, Only, only-self, only-as, only-trans, only-same, turns-wipe}
+use Rattle.demands.specs.Runs.{shape-of, same-or-not, words-left, words-right, words-append, words-page, page-in, length-page, Only, only-self, only-as, only-trans, only-same, turns-wipe}
 use Rattle.demands.specs.Entries.{look, look-kept, twice-kept, live-append, live-kept, live-same}
 use Rattle.demands.specs.Layout.{before, behind, entries-split, entries-only}
-use Rattle.demands.specs.Mending.{given-made, shape-of, free-blank, Settled, Stands, stands-by, stands-settled, stands-look, mended-only, settled-page}
+use Rattle.demands.specs.Mending.{given-made, free-blank, Settled, Stands, stands-by, stands-settled, stands-look, mended-only, settled-page}
 use Rattle.demands.specs.Finishing.{meta-low, copied, part, Undamaged, undamaged-by, restored, finish-resumes, finish-fair, recovered-by}
 use Rattle.demands.specs.Room.{copy-length}
 
@@ -129,7 +130,7 @@ module _ {a : Area} {m : Map} {n : ℕ} {f : List ℕ} (s : Stands a m n f) (i :
   abbrev toR : Step
   toR g = copyTo a (R a) i words
 
-  filled-r : Fair (toR f) f × Only a f (after toR f) (R a) goal
+  filled-r : Fair a (toR f) f × Only a f (after toR f) (R a) goal
   filled-r =
       let c = copied a (R a) i words room low words-kept size .on f (fits (a .pages) (omega arith)) (settled .spare) in
       (c .0, only-as (c .1) goal-is)
@@ -172,7 +173,7 @@ module _ {a : Area} {m : Map} {n : ℕ} {f : List ℕ} (s : Stands a m n f) (i :
   packed-is : packed ≡ after (finish a) full
   packed-is = ap (λ (u : List Store). made u f) compact-is ∙ after-then toR (finish a) f
 
-  pub compact-fair : Fair (compact a i f) f
+  pub compact-fair : Fair a (compact a i f) f
   compact-fair = rw compact-is (fair-append (filled-r .0) (finish-fair a full full-undamaged))
 
   pub packed-only : Only a f packed i goal
@@ -240,7 +241,7 @@ module _ {a : Area} {m : Map} {n : ℕ} {f : List ℕ} (s : Stands a m n f) (i :
     cleared g o = only-same (shape-of (s .given)) o (only-as (only-self a f (R a)) (settled .spare))
 
     cut-erased : Only a f (apply (erase a (R a)) cut) (R a) (blanks (a .words))
-    cut-erased = only-trans cut-only (turns-wipe a (R a) (page a cut (R a)) .on cut (rw (cut-only .long) (fits (a .pages) (omega arith))) refl .1)
+    cut-erased = only-trans cut-only (turns-wipe a (R a) (page a cut (R a)) (le-refl (R a)) .on cut (rw (cut-only .long) (fits (a .pages) (omega arith))) refl .1)
 
     cut-undamaged : Undamaged a cut
     cut-undamaged = record {

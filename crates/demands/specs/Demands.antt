@@ -25,10 +25,11 @@ use Rattle.rules.specs.Refusals.{badHandle, areaQuota, formatChecks, recoverChe
 use Rattle.rules.specs.Lists.{formatList, deleteList, compact, roomPage, compactPage, writeList, recoverList, Request, format, recover, write, delete, planOf}
 use Rattle.rules.specs.Search.{readOf, badPlace, searchOf}
 use Rattle.demands.specs.Terms.{Given, Fair, WriteStores, Typed, Change, Proper, handleIn, newWords, Map, changed, changedAll, newWordsAll, Holds, run, recovered, Recovers, Tried, Carried, CarriedAll, ProperAll, AllDiffer, FineAll, StandsAt, lastLive}
+use Rattle.demands.specs.Runs.{Usable, usable, given-of, shape-of}
 use Rattle.demands.specs.Entries.{once-last}
-use Rattle.demands.specs.Mending.{shape-of, Stands, ready-stands, ready-sound}
+use Rattle.demands.specs.Mending.{Stands, ready-stands, ready-sound}
 use Rattle.demands.specs.Finishing.{Undamaged, recover-resumes, recover-fair, recover-ready, ready-rests, recovered-last}
-use Rattle.demands.specs.Format.{format-fair, format-ready, format-empty, format-length}
+use Rattle.demands.specs.Format.{format-fair, format-settled, format-ready, format-empty, format-length}
 use Rattle.demands.specs.Room.{compact-page, compact-exists}
 use Rattle.demands.specs.Compacting.{packed-stands, packed-room}
 use Rattle.demands.specs.Reading.{read-held, read-absent, held-read, search-yields, search-skips-none, search-read}
@@ -37,22 +38,25 @@ use Rattle.demands.specs.Orders.{tried, carried-all, reordered, carry-ex
 
 module _ {a : Area} {f : List ℕ} (given : Given a f) where
   -- the terms of the proofs for those of the claims
+  fit : Usable a f
+  fit = usable given
+
   stands : ready a f ≡ true → Stands a (mapOf a f) (liveWords (entries a f)) f
-  stands r = ready-stands given r
+  stands r = ready-stands fit r
 
   undamaged : damaged a f ≡ false → Undamaged a f
-  undamaged d = record { given = given; sound = d }
+  undamaged d = record { given = fit; sound = d }
 
   holds : {g : List ℕ} {m : Map} {n : ℕ} → Stands a m n g → Holds a g m
-  holds s = record { ready = s .ready; map = s .map }
+  holds s = record { given = given-of (s .given); ready = s .ready; map = s .map }
 
   changed-by : (r : Request) → Change r → (ss : List Store) → planOf a r f ≡ list ss
       → Changes a (mapOf a f) (liveWords (entries a f)) (changed r (mapOf a f)) (liveWords (entries a f) + newWords r) f ss
   changed-by r c ss e = changes (stands (change-ready a f r c ss e)) r c ss e
 
   -- ---- 1. No store asks a cleared bit to come back, and each lies inside the run: whatever a plan lists, for whatever is asked.
-  pub no-bit-back : (r : Request) → Typed r → (ss : List Store) → planOf a r f ≡ list ss → Fair ss f
-  no-bit-back format t ss e = rw (← listed (formatChecks a f) (formatList a f) ss e .1) (format-fair given)
+  pub no-bit-back : (r : Request) → Typed r → (ss : List Store) → planOf a r f ≡ list ss → Fair a ss f
+  no-bit-back format t ss e = rw (← listed (formatChecks a f) (formatList a f) ss e .1) (format-fair fit)
   no-bit-back recover t ss e =
       let k = listed (recoverChecks a f) (recoverList a f) ss e in
       rw (← k .1) (recover-fair a f (undamaged (k .0 .1 .0)))
@@ -77,7 +81,7 @@ module _ {a : Area} {f : List ℕ} (given : Given a f) where
       (w, write-most s h d p (length ss) w)
 
   pub ready-stores : ready a f ≡ true → planOf a recover f ≡ list []
-  ready-stores r = recover-planned (undamaged (ready-sound a f given r)) ∙ ap list (ready-rests a f given r)
+  ready-stores r = recover-planned (undamaged (ready-sound a f fit r)) ∙ ap list (ready-rests a f fit r)
 
   -- ---- 3. Within the quota there is room: where no page has it a page to compact exists, and compacted that very page has it, with the map as it was.
   pub room : ready a f ≡ true → (l : ℕ) → l ≤ longest → liveWords (entries a f) + l ≤ areaQuota a → roomPage a f l ≡ none
@@ -87,7 +91,7 @@ module _ {a : Area} {f : List ℕ} (given : Given a f) where
     where
       go : (o : Option ℕ) → compactPage a f l ≡ o → (i : ℕ) × (o ≡ some i) × (stop (page a (made (compact a i f) f) i) + l ≤ lastSeal (a .words))
           × Holds a (made (compact a i f) f) (mapOf a f)
-      go none c = absurd (compact-exists a f l (shape-of given) h q c)
+      go none c = absurd (compact-exists a f l (shape-of fit) h q c)
       go (some i) c =
           let p = compact-page a f l i c in
           (i, refl, packed-room (stands r) i (p .0) l (p .1), holds (packed-stands (stands r) i (p .0)))
@@ -111,29 +115,29 @@ module _ {a : Area} {f : List ℕ} (given : Given a f) where
 
   pub formatted : (ss : List Store) → planOf a format f ≡ list ss → Holds a (made ss f) (λ u. none)
   unfolding mapOf
-  formatted ss e = rw (← listed (formatChecks a f) (formatList a f) ss e .1) (record { ready = format-ready given; map = λ u. rw (format-empty given) })
+  formatted ss e = rw (← listed (formatChecks a f) (formatList a f) ss e .1) (record { given = given-of (format-settled fit .given); ready = format-ready fit; map = λ u. rw (format-empty fit) })
 
   -- What a ready area's layout holds is what the map, reads and searches give.
   pub map-read : ready a f ≡ true → (h : ℕ) → badHandle h ≡ false → (d : List ℕ) → mapOf a f h ≡ some d
       → (p : ℕ) × (readOf a h f ≡ Reading.At p (length d)) × StandsAt f p h d
-  map-read r h b d e = read-held h d given r b e
+  map-read r h b d e = read-held h d fit r b e
 
   pub map-unread : ready a f ≡ true → (h : ℕ) → badHandle h ≡ false → mapOf a f h ≡ none → readOf a h f ≡ Reading.Refused NotFound
-  map-unread r h b e = read-absent h given r b e
+  map-unread r h b e = read-absent h fit r b e
 
   pub read-map : (h p n : ℕ) → readOf a h f ≡ Reading.At p n → (mapOf a f h ≡ some (take n (drop (suc p) f))) × StandsAt f p h (take n (drop (suc p) f))
-  read-map h p n e = held-read h p n given e
+  read-map h p n e = held-read h p n fit e
 
   pub search-map : (mask pattern place q : ℕ) → searchOf a mask pattern place f ≡ Yielded.At q
       → (h : ℕ) × (d : List ℕ) × (place < q) × StandsAt f q h d × (mapOf a f h ≡ some d) × (isLive h ≡ true) × (eqb (bitAnd h mask) (bitAnd pattern mask) ≡ true)
-  search-map mask pattern place q e = search-yields mask pattern place q given e
+  search-map mask pattern place q e = search-yields mask pattern place q fit e
 
   pub search-all : (mask pattern place h p n : ℕ) → badPlace a f place ≡ false → readOf a h f ≡ Reading.At p n
       → eqb (bitAnd h mask) (bitAnd pattern mask) ≡ true → place < p → (q : ℕ) × (searchOf a mask pattern place f ≡ Yielded.At q) × (q ≤ p)
-  search-all mask pattern place h p n b r e l = search-skips-none mask pattern place h p n given b r e l
+  search-all mask pattern place h p n b r e l = search-skips-none mask pattern place h p n fit b r e l
 
   pub search-one : (h p n : ℕ) → readOf a h f ≡ Reading.At p n → searchOf a 0xFFFF h 0 f ≡ Yielded.At p
-  search-one h p n e = search-read h p n given e
+  search-one h p n e = search-read h p n fit e
 
   -- ---- 5. Recovery of an undamaged area ends ready; cut at any store and made anew it ends in the very same flash, word for word, however
   -- often it is cut. With no R committed and nothing torn each handle keeps its last live entry; and with nothing double besides, the map is

@@ -6,6 +6,7 @@ use mathlib.Core.List.{List, [], _∷_, _++_, append-assoc}
 use mathlib.Core.Bool.{Bool, true, false, cond, _&&_, _||_, true≢false}
 use Prim.Native.Nat.{ℕ, suc, zero, _+_, _-_, _≤_, _<_, zero-le}
 use native.Mathlib.Omega.{arith}
+use native.Mathlib.Nat.{le-refl}
 use lib.ListN.{length, getD, take, drop, length-append, length-take, length-replicate, replicate-append-replicate}
 use lib.Seq.{take-all, take-at, take-append-le, take-append-add}
 use lib.Dec.{eqb, ltb}
@@ -18,13 +19,13 @@ use Rattle.rules.specs.Walk.{codes, items, stop, allBlank, sealed, kindOf, isSe
 use Rattle.rules.specs.Areas.{R, base, page, kind, every, Recovery, free, unfinished, committed, damage, recoveryOf, recovery, isDamage, names, entries, find, damaged, ready}
 use Rattle.rules.specs.Lists.{erase, copyTo, finish, dropDoubles, recoverList}
 use Rattle.rules.specs.Laws.{and-left, and-right, nor-left, nor-right}
-use Rattle.demands.specs.Terms.{Given, Fair, fair-end, Map, recovered, lastLive}
+use Rattle.demands.specs.Terms.{Fair, fair-end, Map, recovered, lastLive}
 use Rattle.demands.specs.Stages.{made-append, after, after-then, fair-append, Resumes, then-resumes, peels-resumes, peels-ends, peels-fair}
 use Rattle.demands.specs.Pages.{blanks, image, length-image, goods-items, at-seal, stop-image, sealed-shape, is-sealed, words-image}
-use Rattle.demands.specs.Runs.{same-or-not, over-blank, take-puts, length-puts, words-take, words-append, words-left, words-page, page-in, length-page, Only, only-self, only-as, only-trans, only-same, Turns, turns-none, turns-as, turns-then, turns-put, turns-fill, turns-wipe, every-true, true-every}
+use Rattle.demands.specs.Runs.{shape-of, Usable, same-or-not, over-blank, take-puts, length-puts, words-take, words-append, words-left, words-page, page-in, length-page, Only, only-self, only-as, only-trans, only-same, Turns, turns-none, turns-as, turns-then, turns-put, turns-fill, turns-wipe, every-true, true-every}
 use Rattle.demands.specs.Entries.{supersede-none, once-last}
 use Rattle.demands.specs.Layout.{entries-spare}
-use Rattle.demands.specs.Mending.{given-made, shape-of, free-blank, Mended, Settled, Stands, stands-settled, mended-free, mended-sound, ready-settled, drop-keeps-last, mendAndDrop, later-peels, later-ready, settled-mends}
+use Rattle.demands.specs.Mending.{given-made, free-blank, Mended, Settled, Stands, stands-settled, mended-free, mended-sound, ready-settled, drop-keeps-last, mendAndDrop, later-peels, later-ready, settled-mends}
 
 -- ---- words copied to a blank page
 pub meta-low : (n i : ℕ) → i < n → n ≤ 255 → meta1 n i < blank
@@ -109,7 +110,7 @@ committed-r n i r e = go (allBlank r) (eqb (getD r 1 0) blank) (ltb (indexOf (ge
 
 -- ---- an undamaged area
 pub record Undamaged (a : Area) (f : List ℕ) : Type 0 where
-  pub given : Given a f
+  pub given : Usable a f
   pub sound : damaged a f ≡ false
 
 undamaged-pages : {a : Area} {f : List ℕ} → Undamaged a f → (i : ℕ) → i < a .pages → names (recovery a f) i || isSound (kind a f i) ≡ true
@@ -129,7 +130,7 @@ pub finish-rests : {a : Area} {j : ℕ} {f : List ℕ} → Mended a j f → fini
 finish-rests m = rw (mended-free m)
 
 -- R made blank, and the pages sound
-blank-mended : {a : Area} {f g : List ℕ} → Given a g → Only a f g (a .pages) (blanks (a .words)) → ((i : ℕ) → i < a .pages → isSound (kind a f i) ≡ true) → Mended a 0 g
+blank-mended : {a : Area} {f g : List ℕ} → Usable a g → Only a f g (a .pages) (blanks (a .words)) → ((i : ℕ) → i < a .pages → isSound (kind a f i) ≡ true) → Mended a 0 g
 blank-mended v o s = record { given = v; spare = o .here; sound = λ i h. rw (o .there i (λ q. omega arith)) (s i h); done = λ i h l. absurd (omega arith) }
 
 -- page i has become what R was, R is blank, and the rest is as it was
@@ -141,7 +142,7 @@ pub record Restored (a : Area) (f : List ℕ) (i : ℕ) (g : List ℕ) : Type 0 
 
 -- step (a) on a flash: its stores are fair, it leaves R blank, and cut anywhere it is made anew to the same end
 record Finished (a : Area) (f : List ℕ) : Type 0 where
-  fair : Fair (finish a f) f
+  fair : Fair a (finish a f) f
   ends : Mended a 0 (after (finish a) f)
   cut : (k : ℕ) → Undamaged a (madeFirst k (finish a f) f) × (after (finish a) (madeFirst k (finish a f) f) ≡ after (finish a) f)
 
@@ -175,8 +176,8 @@ module _ (a : Area) (f : List ℕ) (u : Undamaged a f) where
       l : finish a f ≡ erase a (R a) ∷ []
       l = rw e
 
-      o : Fair (erase a (R a) ∷ []) f × Only a f (made (erase a (R a) ∷ []) f) (R a) (blanks (a .words))
-      o = turns-wipe a (R a) (page a f (R a)) .on f (fits (a .pages) (omega arith)) refl
+      o : Fair a (erase a (R a) ∷ []) f × Only a f (made (erase a (R a) ∷ []) f) (R a) (blanks (a .words))
+      o = turns-wipe a (R a) (page a f (R a)) (le-refl (R a)) .on f (fits (a .pages) (omega arith)) refl
 
       n : Mended a 0 (after (finish a) f)
       n = rw l (blank-mended (given-made (erase a (R a) ∷ []) (u .given)) (o .1) (λ i h. rw e at (undamaged-pages u i h)))
@@ -192,6 +193,9 @@ module _ (a : Area) (f : List ℕ) (u : Undamaged a f) where
 
     below : i < a .pages
     below = committed-r (a .pages) i r e .0
+
+    inside : i ≤ R a
+    inside = let h = below in omega arith
 
     shape : (m : ℕ) × (r ≡ image (a .pages) i (items r) (seal ∷ blanks m))
     shape =
@@ -241,15 +245,15 @@ module _ (a : Area) (f : List ℕ) (u : Undamaged a f) where
     full-r = ap (λ (x : List ℕ). meta0 ∷ (meta1 (a .pages) i ∷ x)) (append-assoc (codes (items r)) (seal ∷ []) (blanks (shape .0))) ∙ sym (shape .1)
 
     turned : Turns a i back (page a f i) r
-    turned = turns-as refl full-r (turns-then (turns-wipe a i (page a f i)) (copied a i i ws (shape .0) low words-r size))
+    turned = turns-as refl full-r (turns-then (turns-wipe a i (page a f i) inside) (copied a i i ws (shape .0) low words-r size))
 
     -- any part of it
     partly : (k : ℕ) → (y : List ℕ) × Turns a i (take k back) (page a f i) y
     partly zero = (page a f i, turns-none a i (page a f i))
-    partly (suc k) = let p = part a i i ws (shape .0) low words-r size k in (p .page, turns-then (turns-wipe a i (page a f i)) (p .turns))
+    partly (suc k) = let p = part a i i ws (shape .0) low words-r size k in (p .page, turns-then (turns-wipe a i (page a f i) inside) (p .turns))
 
     -- a flash that differs in page i alone: as undamaged, and finished to the same end
-    module _ (g : List ℕ) (v : Given a g) (y : List ℕ) (o : Only a f g i y) where
+    module _ (g : List ℕ) (v : Usable a g) (y : List ℕ) (o : Only a f g i y) where
       same-r : page a g (R a) ≡ r
       same-r = let h = below in o .there (R a) (λ q. omega arith)
 
@@ -266,8 +270,8 @@ module _ (a : Area) (f : List ℕ) (u : Undamaged a f) where
       erased =
           let h = below in
           let l = fits i (omega arith) in
-          let p = turns-wipe a i (page a f i) .on f l refl .1 in
-          let q = turns-wipe a i (page a g i) .on g (rw (o .long) l) refl .1 in
+          let p = turns-wipe a i (page a f i) inside .on f l refl .1 in
+          let q = turns-wipe a i (page a g i) inside .on g (rw (o .long) l) refl .1 in
           only-same (shape-of (u .given)) (only-trans o q) p
 
       g-again : after (finish a) g ≡ after (finish a) f
@@ -280,11 +284,11 @@ module _ (a : Area) (f : List ℕ) (u : Undamaged a f) where
     abbrev copy : List ℕ
     copy = made back f
 
-    first : Fair back f × Only a f copy i r
+    first : Fair a back f × Only a f copy i r
     first = let h = below in turned .on f (fits i (omega arith)) refl
 
-    second : Fair (erase a (R a) ∷ []) copy × Only a copy (apply (erase a (R a)) copy) (R a) (blanks (a .words))
-    second = turns-wipe a (R a) (page a copy (R a)) .on copy (rw (first .1 .long) (fits (a .pages) (omega arith))) refl
+    second : Fair a (erase a (R a) ∷ []) copy × Only a copy (apply (erase a (R a)) copy) (R a) (blanks (a .words))
+    second = turns-wipe a (R a) (page a copy (R a)) (le-refl (R a)) .on copy (rw (first .1 .long) (fits (a .pages) (omega arith))) refl
 
     whole : after (finish a) f ≡ apply (erase a (R a)) copy
     whole = ap (λ (x : List Store). made x f) list-is ∙ made-append back (erase a (R a) ∷ []) f
@@ -348,13 +352,13 @@ module _ (a : Area) where
   pub finish-resumes : Resumes (Undamaged a) (finish a)
   finish-resumes = record { keeps = λ f u k. finished a f u .cut k .0; again = λ f u k. finished a f u .cut k .1 }
 
-  pub finish-fair : (f : List ℕ) → Undamaged a f → Fair (finish a f) f
+  pub finish-fair : (f : List ℕ) → Undamaged a f → Fair a (finish a f) f
   finish-fair f u = finished a f u .fair
 
   pub recover-resumes : Resumes (Undamaged a) (recoverList a)
   recover-resumes = then-resumes finish-resumes (peels-resumes (later-peels a)) (λ f u. finished a f u .ends) (λ f m. mended-undamaged m) (λ f m. finish-rests m)
 
-  pub recover-fair : (f : List ℕ) → Undamaged a f → Fair (recoverList a f) f
+  pub recover-fair : (f : List ℕ) → Undamaged a f → Fair a (recoverList a f) f
   recover-fair f u = fair-append (finish-fair f u) (peels-fair (later-peels a) (after (finish a) f) (finished a f u .ends))
 
   pub recover-ready : (f : List ℕ) → Undamaged a f → ready a (recovered a f) ≡ true
@@ -370,7 +374,7 @@ module _ (a : Area) where
   pub recover-settled : (f : List ℕ) → Settled a f → recoverList a f ≡ dropDoubles a f
   recover-settled f s = recover-mended f s ∙ rw (settled-mends a f s .1)
 
-  pub ready-rests : (f : List ℕ) → Given a f → ready a f ≡ true → recoverList a f ≡ []
+  pub ready-rests : (f : List ℕ) → Usable a f → ready a f ≡ true → recoverList a f ≡ []
   ready-rests f g e = let p = ready-settled g e in recover-settled f (p .0) ∙ supersede-none (entries a f) (p .1)
 
   -- a ready area is recovered to itself
@@ -400,7 +404,7 @@ recovered-last {a} f v c s u =
     finished-only : (r : Recovery) → recovery a f ≡ r → Only a f (after (finish a) f) (R a) (page a (after (finish a) f) (R a))
     finished-only free e = rw e (only-self a f (R a))
     finished-only unfinished e =
-        let o = turns-wipe a (R a) (page a f (R a)) .on f (fits a f v (a .pages) (omega arith)) refl .1 in
+        let o = turns-wipe a (R a) (page a f (R a)) (le-refl (R a)) .on f (fits a f v (a .pages) (omega arith)) refl .1 in
         rw e (only-as o (sym (o .here)))
     finished-only (committed i) e = absurd (c i e)
     finished-only damage e = absurd (true≢false (sym (ap isDamage e) ∙ nor-left (isDamage (recovery a f)) _ (v .sound)))

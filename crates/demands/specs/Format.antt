@@ -14,11 +14,11 @@ use Rattle.rules.specs.Words.{meta0, meta1, seal}
 use Rattle.rules.specs.Walk.{items, sealed}
 use Rattle.rules.specs.Areas.{R, base, page, kind, entriesFrom, entries, ready}
 use Rattle.rules.specs.Lists.{eraseR, formatPage, formatList}
-use Rattle.demands.specs.Terms.{Given, Fair, fair-end}
+use Rattle.demands.specs.Terms.{Fair, fair-end}
 use Rattle.demands.specs.Stages.{fair-append}
 use Rattle.demands.specs.Pages.{blanks, image, no-item, at-seal, items-image, kind-image}
-use Rattle.demands.specs.Runs.{Right, right-at, page-in, Turns, turns-as, turns-then, turns-fill, turns-wipe}
-use Rattle.demands.specs.Mending.{given-made, shape-of, Settled, settled-ready}
+use Rattle.demands.specs.Runs.{shape-of, Usable, Right, right-at, page-in, Turns, turns-as, turns-then, turns-fill, turns-wipe}
+use Rattle.demands.specs.Mending.{given-made, Settled, settled-ready}
 
 -- ---- one page
 -- the page with the index i as format leaves it
@@ -38,13 +38,13 @@ turns-format {a} r i h x =
     let two : base a i + 2 ≡ suc (suc (base a i)) = omega arith in
     let m = meta1-word (a .pages) i h (r .many) in
     rw (one, two)
-    (turns-then (turns-as refl (ap blanks p) (turns-wipe a i x))
+    (turns-then (turns-as refl (ap blanks p) (turns-wipe a i x (omega arith)))
     (turns-fill a i [] (meta0 ∷ (meta1 (a .pages) i ∷ (seal ∷ []))) (blanks (a .words - 3)) (base a i) (omega arith) (more (omega arith) (more m (more (omega arith) none)))))
 
 -- ---- the pages one after the other
 -- format's stores for n pages from the index j on are fair on g, leave these pages fresh, and the others as they were
 record Formats (a : Area) (n j : ℕ) (g : List ℕ) : Type 0 where
-  fair : Fair (each (formatPage a) n j g) g
+  fair : Fair a (each (formatPage a) n j g) g
   here : (i : ℕ) → j ≤ i → i < j + n → page a (made (each (formatPage a) n j g) g) i ≡ fresh a i
   there : (i : ℕ) → (j ≤ i → i < j + n → ⊥) → page a (made (each (formatPage a) n j g) g) i ≡ page a g i
 
@@ -65,14 +65,14 @@ formats {a} (suc n) j {g} r b =
 -- ---- all of it
 -- its stores are fair on f, leave every page fresh, and R blank
 record Whole (a : Area) (f : List ℕ) : Type 0 where
-  fair : Fair (formatList a f) f
+  fair : Fair a (formatList a f) f
   here : (i : ℕ) → i < a .pages → page a (made (formatList a f) f) i ≡ fresh a i
   spare : page a (made (formatList a f) f) (R a) ≡ blanks (a .words)
 
-whole : {a : Area} {f : List ℕ} → Given a f → Whole a f
+whole : {a : Area} {f : List ℕ} → Usable a f → Whole a f
 whole {a} {f} g =
     let r = shape-of g in
-    let o = turns-wipe a (R a) (page a f (R a)) .on f (page-in r (R a) (omega arith)) refl in
+    let o = turns-wipe a (R a) (page a f (R a)) (omega arith) .on f (page-in r (R a) (omega arith)) refl in
     let w = formats (a .pages) 0 (right-at (made (eraseR a f) f) r (o .1 .long)) (omega arith) in
     record {
       fair = fair-append (o .0) (w .fair);
@@ -80,10 +80,10 @@ whole {a} {f} g =
       spare = w .there (R a) (λ lo hi. omega arith) ∙ o .1 .here;
     }
 
-pub format-fair : {a : Area} {f : List ℕ} → Given a f → Fair (formatList a f) f
+pub format-fair : {a : Area} {f : List ℕ} → Usable a f → Fair a (formatList a f) f
 format-fair g = whole g .fair
 
-pub format-settled : {a : Area} {f : List ℕ} → Given a f → Settled a (made (formatList a f) f)
+pub format-settled : {a : Area} {f : List ℕ} → Usable a f → Settled a (made (formatList a f) f)
 format-settled {a} {f} g =
     let w = whole g in
     let s : (i : ℕ) → i < a .pages → kind a (made (formatList a f) f) i ≡ sealed = λ i h. rw (w .here i h) (kind-image at-seal (a .pages) i (a .words - 3) [] no-item) in
@@ -93,13 +93,13 @@ no-entries : (a : Area) (f : List ℕ) (n j : ℕ) → ((i : ℕ) → j ≤ i �
 no-entries a f zero j h = refl
 no-entries a f (suc n) j h = rw (h j (omega arith) (omega arith)) (no-entries a f n (suc j) (λ i lo hi. h i (omega arith) (omega arith)))
 
-pub format-empty : {a : Area} {f : List ℕ} → Given a f → entries a (made (formatList a f) f) ≡ []
+pub format-empty : {a : Area} {f : List ℕ} → Usable a f → entries a (made (formatList a f) f) ≡ []
 unfolding entries
 format-empty {a} {f} g =
     no-entries a (made (formatList a f) f) (a .pages) 0
     (λ i lo hi. rw (whole g .here i (omega arith)) (items-image at-seal (a .pages) i (a .words - 3) [] no-item))
 
-pub format-ready : {a : Area} {f : List ℕ} → Given a f → ready a (made (formatList a f) f) ≡ true
+pub format-ready : {a : Area} {f : List ℕ} → Usable a f → ready a (made (formatList a f) f) ≡ true
 format-ready g = settled-ready (format-settled g) (rw (format-empty g))
 
 -- ---- how many

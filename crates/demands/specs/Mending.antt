@@ -20,18 +20,15 @@ use Rattle.rules.specs.Areas.{R, base, page, kind, every, Recovery, free, unfin
 use Rattle.rules.specs.Refusals.{unready}
 use Rattle.rules.specs.Lists.{bare, lastOf, bareIfLive, mend, supersede, dropDoubles}
 use Rattle.rules.specs.Laws.{and-left, and-right}
-use Rattle.demands.specs.Terms.{Given, Fair, Map, lastLive}
+use Rattle.demands.specs.Terms.{Fair, Map, lastLive}
 use Rattle.demands.specs.Stages.{after, Peels, then-peels, each-peels, each-ends, each-rests, each-one}
 use Rattle.demands.specs.Pages.{blanks, item, image, Good, Goods, no-item, good-item, goods-append, goods-left, goods-right, goods-head, goods-items, bare-header, header-dead, at-seal, at-blank, blank-all, all-blank, items-image, kind-image, stop-image, sealed-shape, torn-shape, is-sealed, codes-append, front, length-front, image-front, image-at}
-use Rattle.demands.specs.Runs.{same-or-not, Right, right, right-wrong, page-in, length-page, Only, Turns, turns-as, turns-then, turns-put, every-true, true-every}
+use Rattle.demands.specs.Runs.{shape-of, Usable, same-or-not, right-wrong, page-in, length-page, Only, Turns, turns-as, turns-then, turns-put, every-true, true-every}
 use Rattle.demands.specs.Entries.{zeroed, look, none-supersede, supersede-first, last-stays}
 use Rattle.demands.specs.Layout.{entryAt, placed-append, located}
 
-pub given-made : {a : Area} {f : List ℕ} (ss : List Store) → Given a f → Given a (made ss f)
+pub given-made : {a : Area} {f : List ℕ} (ss : List Store) → Usable a f → Usable a (made ss f)
 given-made {a} {f} ss g = record { words = words-made ss (g .words); right = right-wrong a f (made ss f) (g .right) (length-made ss f) }
-
-pub shape-of : {a : Area} {f : List ℕ} → Given a f → Right a f
-shape-of {a} {f} g = right a f (g .right)
 
 -- ---- R
 pub blank-free : (n p : ℕ) → recoveryOf n (blanks p) ≡ free
@@ -57,7 +54,7 @@ is-free damage e = absurd (false≢true e)
 
 -- ---- R blank, each page sealed or torn, and those below j sealed
 pub record Mended (a : Area) (j : ℕ) (f : List ℕ) : Type 0 where
-  pub given : Given a f
+  pub given : Usable a f
   pub spare : page a f (R a) ≡ blanks (a .words)
   pub sound : (i : ℕ) → i < a .pages → isSound (kind a f i) ≡ true
   pub done : (i : ℕ) → i < a .pages → i < j → kind a f i ≡ sealed
@@ -79,7 +76,7 @@ unfolding ready
 settled-ready {a} {f} s t =
     rw (mended-free s, t, true-every (λ i. isSealed (kind a f i)) (a .pages) 0 (λ i lo hi. rw (s .done i (omega arith) (omega arith))))
 
-pub ready-settled : {a : Area} {f : List ℕ} → Given a f → ready a f ≡ true → Settled a f × (twice (entries a f) ≡ false)
+pub ready-settled : {a : Area} {f : List ℕ} → Usable a f → ready a f ≡ true → Settled a f × (twice (entries a f) ≡ false)
 unfolding ready
 ready-settled {a} {f} g e =
     let p = and-right (isFree (recovery a f)) _ e in
@@ -97,7 +94,7 @@ ready-settled {a} {f} g e =
 
 -- the checks that requests begin with
 module _ (a : Area) (f : List ℕ) where
-  pub ready-sound : Given a f → ready a f ≡ true → damaged a f ≡ false
+  pub ready-sound : Usable a f → ready a f ≡ true → damaged a f ≡ false
   ready-sound g r = mended-sound (ready-settled g r .0)
 
   pub ready-passed : ready a f ≡ true → unready a f ≡ false
@@ -110,7 +107,7 @@ module _ (a : Area) (f : List ℕ) where
 
 -- the area is ready, its map is m, and it has at most n live words
 pub record Stands (a : Area) (m : Map) (n : ℕ) (f : List ℕ) : Type 0 where
-  pub given : Given a f
+  pub given : Usable a f
   pub ready : ready a f ≡ true
   pub map : (u : ℕ) → mapOf a f u ≡ m u
   pub live : liveWords (entries a f) ≤ n
@@ -120,7 +117,7 @@ pub stands-by : {a : Area} {m : Map} {n : ℕ} {f : List ℕ} (es : List Entry) 
 unfolding mapOf
 stands-by es s e t q l = record { given = s .given; ready = settled-ready s (rw e t); map = λ u. rw e (q u); live = rw e l }
 
-pub ready-stands : {a : Area} {f : List ℕ} → Given a f → ready a f ≡ true → Stands a (mapOf a f) (liveWords (entries a f)) f
+pub ready-stands : {a : Area} {f : List ℕ} → Usable a f → ready a f ≡ true → Stands a (mapOf a f) (liveWords (entries a f)) f
 ready-stands {a} {f} g r = record { given = g; ready = r; map = λ u. refl; live = le-refl (liveWords (entries a f)) }
 
 pub stands-settled : {a : Area} {m : Map} {n : ℕ} {f : List ℕ} → Stands a m n f → Settled a f × (twice (entries a f) ≡ false)
@@ -131,7 +128,7 @@ unfolding mapOf
 stands-look s u = s .map u
 
 -- one page turned to another
-pub mended-only : {a : Area} {j : ℕ} {f g : List ℕ} {i : ℕ} {x : List ℕ} → Mended a j f → Given a g → i < a .pages → Only a f g i x
+pub mended-only : {a : Area} {j : ℕ} {f g : List ℕ} {i : ℕ} {x : List ℕ} → Mended a j f → Usable a g → i < a .pages → Only a f g i x
     → isSound (kindOf (a .pages) i x) ≡ true → (i < j → kindOf (a .pages) i x ≡ sealed) → Mended a j g
 mended-only {a} {j} {f} {g} {i} {x} m v h o s d =
     record {
@@ -173,7 +170,7 @@ dead-good d l = record { small = omega arith; short = l }
 
 -- ---- an entry invalidated
 pub record Invalidated (a : Area) (g : List ℕ) (pre : List Entry) (e : Entry) (suf : List Entry) : Type 0 where
-  pub fair : Fair (bare e ∷ []) g
+  pub fair : Fair a (bare e ∷ []) g
   pub settled : Settled a (apply (bare e) g)
   pub entries : entries a (apply (bare e) g) ≡ pre ++ zeroed e ∷ suf
 
@@ -237,7 +234,7 @@ module _ (a : Area) (i : ℕ) (h : i < a .pages) where
 
   -- what is wanted of the first store
   abbrev First : ℕ → List ℕ → Store → List Store → Type 0
-  First j f x xs = Fair (x ∷ []) f × Mended a j (apply x f) × (mend a i (apply x f) ≡ xs)
+  First j f x xs = Fair a (x ∷ []) f × Mended a j (apply x f) × (mend a i (apply x f) ≡ xs)
 
   module _ (j : ℕ) (below : j ≤ i) (f : List ℕ) (m : Mended a j f) where
     fits : base a (suc i) ≤ length f
@@ -313,7 +310,7 @@ module _ (a : Area) (i : ℕ) (h : i < a .pages) where
       let s = turns-seal a i (es ++ (item 0 (x .words) ∷ [])) (blanks n) (base a i + (2 + length (codes (es ++ (x ∷ []))))) (omega arith) in
       rw (mend-torn f (es ++ (x ∷ [])) n gs e, last-placed es x, v) (turns-then b s .on f l e .1)
 
-  mend-peels : Peels (Mended a i) (mend a i)
+  mend-peels : Peels a (Mended a i) (mend a i)
   mend-peels = record { first = λ f m x xs q. mend-first i (omega arith) f m (kind a f i) refl x xs q }
 
   snoc-some : (ss : List Store) (x : Store) → ss ++ (x ∷ []) ≡ [] → ⊥
@@ -333,10 +330,10 @@ module _ (a : Area) (i : ℕ) (h : i < a .pages) where
   mend-back f m = (record { given = m .given; spare = m .spare; sound = m .sound; done = λ l b c. m .done l b (omega arith) }, mend-sealed f (m .done i h (omega arith)))
 
 -- ---- step (c)
-drop-peels : (a : Area) → Peels (Settled a) (dropDoubles a)
+drop-peels : (a : Area) → Peels a (Settled a) (dropDoubles a)
 drop-peels a = record { first = go }
   where
-    go : (f : List ℕ) → Settled a f → (x : Store) (xs : List Store) → dropDoubles a f ≡ x ∷ xs → Fair (x ∷ []) f × Settled a (apply x f) × (dropDoubles a (apply x f) ≡ xs)
+    go : (f : List ℕ) → Settled a f → (x : Store) (xs : List Store) → dropDoubles a f ≡ x ∷ xs → Fair a (x ∷ []) f × Settled a (apply x f) × (dropDoubles a (apply x f) ≡ xs)
     go f s x xs q =
         let w = supersede-first (entries a f) x xs q in
         let v = invalidate (w .pre) (w .entry) (w .suf) s (w .is) in
@@ -363,7 +360,7 @@ module _ (a : Area) where
   abbrev pub mendAndDrop : Step
   mendAndDrop = mendAll a then dropDoubles a
 
-  pub later-peels : Peels (Mended a 0) mendAndDrop
+  pub later-peels : Peels a (Mended a 0) mendAndDrop
   later-peels =
       then-peels (each-peels (mend a) (Mended a) (a .pages) (mend-peels a) (λ i f h. mend-on a i h f) (λ i f h. mend-back a i h f) (a .pages) 0 (omega arith)) (drop-peels a)
       (each-ends (mend a) (Mended a) (a .pages) (mend-peels a) (λ i f h. mend-on a i h f) (λ i f h. mend-back a i h f) (a .pages) 0 (omega arith))

@@ -22,12 +22,12 @@ use Rattle.rules.specs.Areas.{base, page, Entry, placed, entriesFrom, entries, 
 use Rattle.rules.specs.Refusals.{badHandle, isNone, findChecks}
 use Rattle.rules.specs.Search.{placeOf, dataLength, readOf, matches, next, badPlace, searchChecks, searchOf}
 use Rattle.rules.specs.Laws.{and-left, and-right, passed-checked, checked-passed}
-use Rattle.demands.specs.Terms.{Given, StandsAt}
+use Rattle.demands.specs.Terms.{StandsAt}
 use Rattle.demands.specs.Pages.{blanks, item, image, Goods, goods-right, goods-head, goods-items, length-image, front, length-front, image-at}
-use Rattle.demands.specs.Runs.{base-suc, length-page, page-in}
+use Rattle.demands.specs.Runs.{shape-of, Usable, base-suc, length-page, page-in}
 use Rattle.demands.specs.Entries.{first-some, find-some, once-apart, look-add}
 use Rattle.demands.specs.Layout.{Located, located}
-use Rattle.demands.specs.Mending.{shape-of, Settled, ready-settled, ready-sound, ready-passed, passed-ready, settled-page}
+use Rattle.demands.specs.Mending.{Settled, ready-settled, ready-sound, ready-passed, passed-ready, settled-page}
 
 -- ---- where entries stand
 -- an entry written in a page: the run before it and behind it
@@ -168,7 +168,7 @@ find-stands {a} {f} h e s q =
     subst (λ (u : ℕ). StandsAt f (e .place) u (e .words)) (r .3) (stands s (r .0) e (r .1) (r .2))
 
 -- the entry of a read that is answered
-read-finds : {a : Area} {f : List ℕ} (h p n : ℕ) → Given a f → readOf a h f ≡ Reading.At p n
+read-finds : {a : Area} {f : List ℕ} (h p n : ℕ) → Usable a f → readOf a h f ≡ Reading.At p n
     → (e : Entry) × (find h (entries a f) ≡ some e) × (e .place ≡ p) × (length (e .words) ≡ n) × (ready a f ≡ true)
 read-finds {a} {f} h p n g q =
     let c = checked-passed Reading.Refused (findChecks a f h) _ (Reading.At p n) (λ m z. let y : _≡_ {A = ℕ} 0 1 = cc in omega arith) q in
@@ -178,7 +178,7 @@ read-finds {a} {f} h p n g q =
     (e .0, e .1, cc, cc, passed-ready a f (k .0) (k .1 .0))
 
 -- what the map holds is read where it stands, and what it does not hold is not found
-pub read-held : {a : Area} {f : List ℕ} (h : ℕ) (d : List ℕ) → Given a f → ready a f ≡ true → badHandle h ≡ false → mapOf a f h ≡ some d
+pub read-held : {a : Area} {f : List ℕ} (h : ℕ) (d : List ℕ) → Usable a f → ready a f ≡ true → badHandle h ≡ false → mapOf a f h ≡ some d
     → (p : ℕ) × (readOf a h f ≡ Reading.At p (length d)) × StandsAt f p h d
 unfolding mapOf
 read-held {a} {f} h d g r b m =
@@ -190,12 +190,12 @@ read-held {a} {f} h d g r b m =
       subst (λ (u : List ℕ). StandsAt f (t .0 .place) h u) (t .2) (find-stands h (t .0) (ready-settled g r .0) (t .1)),
     )
 
-pub read-absent : {a : Area} {f : List ℕ} (h : ℕ) → Given a f → ready a f ≡ true → badHandle h ≡ false → mapOf a f h ≡ none → readOf a h f ≡ Reading.Refused NotFound
+pub read-absent : {a : Area} {f : List ℕ} (h : ℕ) → Usable a f → ready a f ≡ true → badHandle h ≡ false → mapOf a f h ≡ none → readOf a h f ≡ Reading.Refused NotFound
 unfolding mapOf
 read-absent {a} {f} h g r b m = rw (g .right, ready-sound a f g r, ready-passed a f r, b, data-none (find h (entries a f)) m)
 
 -- and back
-pub held-read : {a : Area} {f : List ℕ} (h p n : ℕ) → Given a f → readOf a h f ≡ Reading.At p n
+pub held-read : {a : Area} {f : List ℕ} (h p n : ℕ) → Usable a f → readOf a h f ≡ Reading.At p n
     → (mapOf a f h ≡ some (take n (drop (suc p) f))) × StandsAt f p h (take n (drop (suc p) f))
 unfolding mapOf
 held-read {a} {f} h p n g q =
@@ -219,14 +219,14 @@ abbrev wanted : ℕ → ℕ → ℕ → Entry → Bool
 wanted mask pattern place e = ltb place (e .place) && matches mask pattern e
 
 module _ {a : Area} {f : List ℕ} (mask pattern place : ℕ) where
-  searched : (c : Entry) → Given a f → ready a f ≡ true → badPlace a f place ≡ false → next a f mask pattern place ≡ some c
+  searched : (c : Entry) → Usable a f → ready a f ≡ true → badPlace a f place ≡ false → next a f mask pattern place ≡ some c
       → searchOf a mask pattern place f ≡ Yielded.At (c .place)
   searched c g r b q =
       passed-checked Yielded.Refused (searchChecks a f mask pattern place) _ (g .right, (ready-sound a f g r, (ready-passed a f r, (b, (ap isNone q, tt)))))
       ∙ ap (λ (u : Option Entry). Yielded.At (placeOf u)) q
 
   -- what it yields is a match behind the place, and the map's
-  pub search-yields : (q : ℕ) → Given a f → searchOf a mask pattern place f ≡ Yielded.At q
+  pub search-yields : (q : ℕ) → Usable a f → searchOf a mask pattern place f ≡ Yielded.At q
       → (h : ℕ) × (d : List ℕ) × (place < q) × StandsAt f q h d × (mapOf a f h ≡ some d) × (isLive h ≡ true) × (eqb (bitAnd h mask) (bitAnd pattern mask) ≡ true)
   unfolding next
   search-yields q g y =
@@ -256,7 +256,7 @@ module _ {a : Area} {f : List ℕ} (mask pattern place : ℕ) where
   next-least s pre e suf q t = rw q (first-least (wanted mask pattern place) pre e suf (grow-entries s (pre ++ e ∷ suf) q) t)
 
   -- and no match behind the place stands before it
-  pub search-skips-none : (h p n : ℕ) → Given a f → badPlace a f place ≡ false → readOf a h f ≡ Reading.At p n
+  pub search-skips-none : (h p n : ℕ) → Usable a f → badPlace a f place ≡ false → readOf a h f ≡ Reading.At p n
       → eqb (bitAnd h mask) (bitAnd pattern mask) ≡ true → place < p → (q : ℕ) × (searchOf a mask pattern place f ≡ Yielded.At q) × (q ≤ p)
   search-skips-none h p n g b q m l =
       let r = read-finds h p n g q in
@@ -281,7 +281,7 @@ next-find a f h l = first-agree (wanted 0xFFFF h 0) (liveOf h) (entries a f) sam
     same pre e suf q =
         rw (lt-ltb 0 (e .place) (place-some a f pre e suf q), masked (e .handle) (small-handle a f pre e suf q), masked h l) (go e (eqb (e .handle) h) refl)
 
-pub search-read : {a : Area} {f : List ℕ} (h p n : ℕ) → Given a f → readOf a h f ≡ Reading.At p n → searchOf a 0xFFFF h 0 f ≡ Yielded.At p
+pub search-read : {a : Area} {f : List ℕ} (h p n : ℕ) → Usable a f → readOf a h f ≡ Reading.At p n → searchOf a 0xFFFF h 0 f ≡ Yielded.At p
 unfolding badPlace
 search-read {a} {f} h p n g q =
     let r = read-finds h p n g q in

@@ -24,8 +24,9 @@ use Rattle.rules.specs.Lists.{bare, bareIf, deleteList, deletePlan, compact, ro
 use Rattle.rules.specs.Laws.{and-left, and-right, nor-left, nor-right, Passed, passed-checked, checked-passed}
 use Rattle.demands.specs.Terms.{Fair, fair-end, appendStores, WriteStores, held, appended, compacted, Change, Proper, handleIn, newWords, Map, changed, wasCut, run, recovered, Recovers, whole, after-cut}
 use Rattle.demands.specs.Stages.{after-then, fair-append}
+use Rattle.demands.specs.Runs.{shape-of}
 use Rattle.demands.specs.Entries.{zeroed, twice-skip, once-drop, look-drop, live-skip, live-at, find-some, look}
-use Rattle.demands.specs.Mending.{shape-of, Stands, stands-by, stands-settled, stands-look, ready-sound, ready-passed, passed-ready, invalidate}
+use Rattle.demands.specs.Mending.{Stands, stands-by, stands-settled, stands-look, ready-sound, ready-passed, passed-ready, invalidate}
 use Rattle.demands.specs.Finishing.{Undamaged, mended-undamaged, Safe, recover-resumes, stands-recovered}
 use Rattle.demands.specs.Room.{compact-length, append-length, room-page, compact-page, compact-exists}
 use Rattle.demands.specs.Compacting.{packed, packed-stands, packed-room, compact-fair, compact-cut}
@@ -33,7 +34,7 @@ use Rattle.demands.specs.Appending.{Fitting, append-fair, append-stands,
 
 -- A list of stores that turns one map into another: made whole it has, and cut anywhere it has or has not.
 pub record Changes (a : Area) (m : Map) (n : ℕ) (m′ : Map) (n′ : ℕ) (f : List ℕ) (ss : List Store) : Type 0 where
-  pub fair : Fair ss f
+  pub fair : Fair a ss f
   pub stands : Stands a m′ n′ (made ss f)
   pub cut : (k : ℕ) → Safe a m n m′ n′ (madeFirst k ss f)
 
@@ -231,7 +232,7 @@ module _ {a : Area} {m : Map} {n : ℕ} {f : List ℕ} (s : Stands a m n f) (h :
 -- ---- a delete
 module _ {a : Area} {m : Map} {n : ℕ} {f : List ℕ} (s : Stands a m n f) (h : ℕ) where
   dropped : (p : List Entry) (e : Entry) (y : List Entry) → entries a f ≡ p ++ e ∷ y → e .handle ≡ h
-      → Fair (bare e ∷ []) f × Stands a (changed (delete h) m) n (apply (bare e) f)
+      → Fair a (bare e ∷ []) f × Stands a (changed (delete h) m) n (apply (bare e) f)
   dropped p e y is mine =
       let v = invalidate p e y (stands-settled s .0) is in
       let o : twice (p ++ e ∷ y) ≡ false = rw is at (stands-settled s .1) in
@@ -246,7 +247,7 @@ module _ {a : Area} {m : Map} {n : ℕ} {f : List ℕ} (s : Stands a m n f) (h :
   delete-changes : (e : Entry) → find h (entries a f) ≡ some e → Changes a m n (changed (delete h) m) n f (bare e ∷ [])
   delete-changes e q = record { fair = t .0; stands = t .1; cut = cut }
     where
-      t : Fair (bare e ∷ []) f × Stands a (changed (delete h) m) n (apply (bare e) f)
+      t : Fair a (bare e ∷ []) f × Stands a (changed (delete h) m) n (apply (bare e) f)
       t = let w = find-some h (entries a f) e q in dropped (w .0) e (w .1) (w .2) (w .3)
 
       cut : (k : ℕ) → Safe a m n (changed (delete h) m) n (madeFirst k (bare e ∷ []) f)

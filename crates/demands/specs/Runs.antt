@@ -12,7 +12,7 @@ use lib.ListN.{length, getD, take, drop, set, length-append, length-take, length
 use lib.Seq.{take-nil, take-all, take-add, take-set-le, take-set-lt, drop-set-add, drop-set-lt, getD-take, getD-drop, getD-at, set-at, sets, sets-eq}
 use lib.Bits.{bitAnd, and-mask, and-comm}
 use lib.Dec.{leb, eqb}
-use borrow.Author.Tests.{leb-true, eqb-true, not-false}
+use borrow.Author.Tests.{leb-true, le-leb, eq-eqb, eqb-true, not-false}
 use Rattle.flash.specs.Stores.{blank, Words, none, more, Store, put, stored, wiped, made, puts}
 use Rattle.flash.specs.Laws.{le-or-lt}
 use Rattle.rules.specs.declared.Area.{Area}
@@ -20,11 +20,11 @@ use Rattle.rules.specs.declared.PageSize.{PageSize}
 use Rattle.rules.specs.declared.PageSize.the-variants.{Small, Medium, Large}
 use Rattle.rules.specs.declared.FoundSize.{FoundSize}
 use Rattle.rules.specs.Words.{wordsOf, sizeOf}
-use Rattle.rules.specs.Areas.{base, page, every}
+use Rattle.rules.specs.Areas.{R, base, page, every}
 use Rattle.rules.specs.Refusals.{isListed, wrongGeometry}
 use Rattle.rules.specs.Lists.{erase}
 use Rattle.rules.specs.Laws.{and-left, and-right, nor-left, nor-right, size-words}
-use Rattle.demands.specs.Terms.{Fair, fair-end, fair-put, fair-wipe}
+use Rattle.demands.specs.Terms.{Given, Fair, fair-end, fair-put, fair-wipe}
 use Rattle.demands.specs.Stages.{made-append, fair-append}
 use Rattle.demands.specs.Pages.{blanks}
 
@@ -107,32 +107,59 @@ pub record Right (a : Area) (f : List ℕ) : Type 0 where
   pub wide : 64 ≤ a .words
   pub long : length f ≡ base a (suc (a .pages))
 
-listed-wide : (P : ℕ) → isListed (sizeOf P) ≡ true → 64 ≤ P
-listed-wide P e = go (sizeOf P) refl
-  where
-    wide : (s : PageSize) → wordsOf s ≡ P → 64 ≤ P
-    wide Small q = omega arith
-    wide Medium q = omega arith
-    wide Large q = omega arith
+-- as the rules test it
+pub record Usable (a : Area) (f : List ℕ) : Type 0 where
+  pub words : Words f
+  pub right : wrongGeometry a f ≡ false
 
-    go : (s : FoundSize) → sizeOf P ≡ s → 64 ≤ P
-    go (FoundSize.Is s) q = wide s (size-words P s q)
+sized : (P : ℕ) → (P ≡ 64) ⊎ ((P ≡ 256) ⊎ (P ≡ 1024)) → isListed (sizeOf P) ≡ true
+sized P s = ⊎-elim (λ e. rw e) (λ t. ⊎-elim (λ e. rw e) (λ e. rw e) t) s
+
+size-of : (P : ℕ) → isListed (sizeOf P) ≡ true → (P ≡ 64) ⊎ ((P ≡ 256) ⊎ (P ≡ 1024))
+size-of P e = go (sizeOf P) refl
+  where
+    one : (s : PageSize) → wordsOf s ≡ P → (P ≡ 64) ⊎ ((P ≡ 256) ⊎ (P ≡ 1024))
+    one Small q = inl (sym q)
+    one Medium q = inr (inl (sym q))
+    one Large q = inr (inr (sym q))
+
+    go : (s : FoundSize) → sizeOf P ≡ s → (P ≡ 64) ⊎ ((P ≡ 256) ⊎ (P ≡ 1024))
+    go (FoundSize.Is s) q = one s (size-words P s q)
     go FoundSize.None q = absurd (false≢true (sym (ap isListed q) ∙ e))
 
-pub right : (a : Area) (f : List ℕ) → wrongGeometry a f ≡ false → Right a f
-unfolding wrongGeometry base
-right a f e =
+pub usable : {a : Area} {f : List ℕ} → Given a f → Usable a f
+unfolding wrongGeometry
+usable {a} {f} g = record {
+  words = g .words;
+  right = rw (le-leb 1 (a .pages) (g .some-pages), le-leb (a .pages) 255 (g .few-pages), sized (a .words) (g .size), eq-eqb (length f) ((a .pages + 1) * a .words) (g .long));
+}
+
+pub given-of : {a : Area} {f : List ℕ} → Usable a f → Given a f
+unfolding wrongGeometry
+given-of {a} {f} u =
     let lo = leb 1 (a .pages) in
     let hi = leb (a .pages) 255 in
     let s = isListed (sizeOf (a .words)) in
     let l = eqb (length f) ((a .pages + 1) * a .words) in
-    let p = nor-right (not (lo && hi)) (not s || not l) e in
-    let m = not-false (lo && hi) (nor-left (not (lo && hi)) (not s || not l) e) in
+    let p = nor-right (not (lo && hi)) (not s || not l) (u .right) in
+    let m = not-false (lo && hi) (nor-left (not (lo && hi)) (not s || not l) (u .right)) in
     record {
+      words = u .words;
       some-pages = leb-true 1 (a .pages) (and-left lo hi m);
-      many = leb-true (a .pages) 255 (and-right lo hi m);
-      wide = listed-wide (a .words) (not-false s (nor-left (not s) (not l) p));
-      long = eqb-true (length f) ((a .pages + 1) * a .words) (not-false l (nor-right (not s) (not l) p)) ∙ ap (λ (u : ℕ). u * a .words) (add-one (a .pages));
+      few-pages = leb-true (a .pages) 255 (and-right lo hi m);
+      size = size-of (a .words) (not-false s (nor-left (not s) (not l) p));
+      long = eqb-true (length f) ((a .pages + 1) * a .words) (not-false l (nor-right (not s) (not l) p));
+    }
+
+pub shape-of : {a : Area} {f : List ℕ} → Usable a f → Right a f
+unfolding base
+shape-of {a} {f} u =
+    let g = given-of u in
+    record {
+      some-pages = g .some-pages;
+      many = g .few-pages;
+      wide = ⊎-elim (λ e. omega arith) (λ t. ⊎-elim (λ e. omega arith) (λ e. omega arith) t) (g .size);
+      long = g .long ∙ ap (λ (u : ℕ). u * a .words) (add-one (a .pages));
     }
 
 pub right-wrong : (a : Area) (f g : List ℕ) → wrongGeometry a f ≡ false → length g ≡ length f → wrongGeometry a g ≡ false
@@ -227,7 +254,7 @@ sets-all f ws e =
 -- ---- stores inside one page
 -- made on any flash whose page i is x, the stores ss are fair, leave page i as y, and the rest as it was
 pub record Turns (a : Area) (i : ℕ) (ss : List Store) (x y : List ℕ) : Type 0 where
-  pub on : (g : List ℕ) → base a (suc i) ≤ length g → page a g i ≡ x → Fair ss g × Only a g (made ss g) i y
+  pub on : (g : List ℕ) → base a (suc i) ≤ length g → page a g i ≡ x → Fair a ss g × Only a g (made ss g) i y
 
 pub turns-none : (a : Area) (i : ℕ) (x : List ℕ) → Turns a i [] x x
 turns-none a i x = record { on = λ g l e. (fair-end, only-as (only-self a g i) e) }
@@ -239,7 +266,7 @@ pub turns-then : {a : Area} {i : ℕ} {ss tt : List Store} {x y z : List ℕ} �
 turns-then {a} {i} {ss} {tt} {x} {z = z} s t = record { on = both }
   where
     both : (g : List ℕ) → base a (suc i) ≤ length g → page a g i ≡ x
-        → Fair (ss ++ tt) g × Only a g (made (ss ++ tt) g) i z
+        → Fair a (ss ++ tt) g × Only a g (made (ss ++ tt) g) i z
     both g l e =
         let p = s .on g l e in
         let o = p .1 in
@@ -252,7 +279,7 @@ unfolding stored
 turns-put a i u y v p w d c = record { on = stores }
   where
     stores : (g : List ℕ) → base a (suc i) ≤ length g → page a g i ≡ u ++ y ∷ v
-        → Fair (put p w ∷ []) g × Only a g (stored g p w) i (u ++ w ∷ v)
+        → Fair a (put p w ∷ []) g × Only a g (stored g p w) i (u ++ w ∷ v)
     stores g l e =
         let s = base-suc a i in
         let n : length u + suc (length v) ≡ a .words = sym (length-append u (y ∷ v)) ∙ sym (ap length e) ∙ length-page a g i l in
@@ -270,19 +297,19 @@ turns-fill a i u (w ∷ ws) v p d (more b bs) =
     turns-then (turns-put a i u blank (blanks (length ws) ++ v) p w d (over-blank w b))
     (turns-as (sym (append-assoc u (w ∷ []) (blanks (length ws) ++ v))) (append-assoc u (w ∷ []) (ws ++ v)) r)
 
-pub turns-wipe : (a : Area) (i : ℕ) (x : List ℕ) → Turns a i (erase a i ∷ []) x (blanks (a .words))
+pub turns-wipe : (a : Area) (i : ℕ) (x : List ℕ) → i ≤ R a → Turns a i (erase a i ∷ []) x (blanks (a .words))
 unfolding wiped
-turns-wipe a i x = record { on = wipes }
+turns-wipe a i x k = record { on = wipes }
   where
     wipes : (g : List ℕ) → base a (suc i) ≤ length g → page a g i ≡ x
-        → Fair (erase a i ∷ []) g × Only a g (wiped g (base a i) (a .words)) i (blanks (a .words))
+        → Fair a (erase a i ∷ []) g × Only a g (wiped g (base a i) (a .words)) i (blanks (a .words))
     wipes g l e =
         let s = base-suc a i in
         let n : length (blanks (a .words)) ≡ a .words = length-replicate (a .words) blank in
         let b : base a i + a .words ≤ length g = omega arith in
         let z : base a i + 0 ≡ base a i = omega arith in
         let o = only-sets a g i 0 (blanks (a .words)) (omega arith) in
-        (fair-wipe b fair-end, rw z at (only-as o (sets-all (page a g i) (blanks (a .words)) (n ∙ sym (length-page a g i l)))))
+        (fair-wipe k b fair-end, rw z at (only-as o (sets-all (page a g i) (blanks (a .words)) (n ∙ sym (length-page a g i l)))))
 
 -- ---- tests over pages
 pub every-true : (t : ℕ → Bool) (k i : ℕ) → every t k i ≡ true → (j : ℕ) → i ≤ j → j < i + k → t j ≡ true

@@ -10,6 +10,7 @@ use lib.ListN.{length, take, drop, take-append-drop}
 use lib.Seq.{take-length, drop-length}
 use Rattle.flash.specs.Stores.{Store, apply, made, madeFirst, Step, _then_, each}
 use Rattle.flash.specs.Laws.{le-or-lt, first-none, first-all, first-then}
+use Rattle.rules.specs.declared.Area.{Area}
 use Rattle.demands.specs.Terms.{Fair, fair-end, fair-put, fair-wipe}
 
 pub made-append : (x y : List Store) (f : List ℕ) → made (x ++ y) f ≡ made y (made x f)
@@ -23,10 +24,10 @@ after s f = made (s f) f
 pub after-then : (s t : Step) (f : List ℕ) → after (s then t) f ≡ after t (after s f)
 after-then s t f = made-append (s f) (t (after s f)) f
 
-pub fair-append : {x y : List Store} {f : List ℕ} → Fair x f → Fair y (made x f) → Fair (x ++ y) f
+pub fair-append : {a : Area} {x y : List Store} {f : List ℕ} → Fair a x f → Fair a y (made x f) → Fair a (x ++ y) f
 fair-append fair-end q = q
 fair-append (fair-put l e c) q = fair-put l e (fair-append c q)
-fair-append (fair-wipe l c) q = fair-wipe l (fair-append c q)
+fair-append (fair-wipe i l c) q = fair-wipe i l (fair-append c q)
 
 -- ---- taken up again
 -- Cut anywhere on a flash that it was meant for, the step leaves such a flash, and made anew ends where it would have.
@@ -72,13 +73,13 @@ module _ {I J : List ℕ → Type 0} {s t : Step} (rs : Resumes I s) (rt : Resum
 
 -- ---- going on with what is left
 -- After the first of its stores, which is fair, the step has the others to make.
-pub record Peels (I : List ℕ → Type 0) (s : Step) : Type 0 where
-  pub first : (f : List ℕ) → I f → (x : Store) (xs : List Store) → s f ≡ x ∷ xs → Fair (x ∷ []) f × I (apply x f) × (s (apply x f) ≡ xs)
+pub record Peels (a : Area) (I : List ℕ → Type 0) (s : Step) : Type 0 where
+  pub first : (f : List ℕ) → I f → (x : Store) (xs : List Store) → s f ≡ x ∷ xs → Fair a (x ∷ []) f × I (apply x f) × (s (apply x f) ≡ xs)
 
-fair-cons : (x : Store) (xs : List Store) (f : List ℕ) → Fair (x ∷ []) f → Fair xs (apply x f) → Fair (x ∷ xs) f
+fair-cons : {a : Area} (x : Store) (xs : List Store) (f : List ℕ) → Fair a (x ∷ []) f → Fair a xs (apply x f) → Fair a (x ∷ xs) f
 fair-cons x xs f p q = fair-append p q
 
-module _ {I : List ℕ → Type 0} {s : Step} (p : Peels I s) where
+module _ {a : Area} {I : List ℕ → Type 0} {s : Step} (p : Peels a I s) where
   peel : (ss : List Store) (k : ℕ) (f : List ℕ) → I f → s f ≡ ss → I (made (take k ss) f) × (s (made (take k ss) f) ≡ drop k ss)
   peel [] zero f i e = (i, e)
   peel [] (suc k) f i e = (i, e)
@@ -102,19 +103,19 @@ module _ {I : List ℕ → Type 0} {s : Step} (p : Peels I s) where
       let e : made (take (length (s f)) (s f)) f ≡ after s f = ap (λ (u : List Store). made u f) (take-length (s f)) in
       (subst I e (q .0), ap s (sym e) ∙ q .1 ∙ drop-length (s f))
 
-  fair-from : (ss : List Store) (f : List ℕ) → I f → s f ≡ ss → Fair ss f
+  fair-from : (ss : List Store) (f : List ℕ) → I f → s f ≡ ss → Fair a ss f
   fair-from [] f i e = fair-end
   fair-from (x ∷ xs) f i e = let q = p .first f i x xs e in fair-cons x xs f (q .0) (fair-from xs (apply x f) (q .1) (q .2))
 
-  pub peels-fair : (f : List ℕ) → I f → Fair (s f) f
+  pub peels-fair : (f : List ℕ) → I f → Fair a (s f) f
   peels-fair f i = fair-from (s f) f i refl
 
 -- two such steps, the second on the flash on which the first has nothing to do
-pub then-peels : {I J : List ℕ → Type 0} {s t : Step} → Peels I s → Peels J t → ((f : List ℕ) → I f → s f ≡ [] → J f)
-    → ((f : List ℕ) → J f → I f × (s f ≡ [])) → Peels I (s then t)
-then-peels {I} {J} {s} {t} p q to from = record { first = λ f i x xs e. go f i x xs e (s f) refl }
+pub then-peels : {a : Area} {I J : List ℕ → Type 0} {s t : Step} → Peels a I s → Peels a J t → ((f : List ℕ) → I f → s f ≡ [] → J f)
+    → ((f : List ℕ) → J f → I f × (s f ≡ [])) → Peels a I (s then t)
+then-peels {a} {I} {J} {s} {t} p q to from = record { first = λ f i x xs e. go f i x xs e (s f) refl }
   where
-    go : (f : List ℕ) → I f → (x : Store) (xs : List Store) → (s then t) f ≡ x ∷ xs → (ss : List Store) → s f ≡ ss → Fair (x ∷ []) f × I (apply x f) × ((s then t) (apply x f) ≡ xs)
+    go : (f : List ℕ) → I f → (x : Store) (xs : List Store) → (s then t) f ≡ x ∷ xs → (ss : List Store) → s f ≡ ss → Fair a (x ∷ []) f × I (apply x f) × ((s then t) (apply x f) ≡ xs)
     go f i x xs e [] z =
         let y : t f ≡ x ∷ xs = ap (λ (u : List Store). u ++ t (made u f)) (sym z) ∙ e in
         let r = q .first f (to f i z) x xs y in
@@ -128,10 +129,10 @@ then-peels {I} {J} {s} {t} p q to from = record { first = λ f i x xs e. go f i 
         (r .0, r .1, ap (λ (u : List Store). u ++ t (made u (apply x f))) (r .2) ∙ ap (λ (u : Store). ys ++ t (made ys (apply u f))) (sym h) ∙ l)
 
 -- one for every page: I i is what is wanted when the steps before i have nothing to do
-module _ (t : ℕ → Step) (I : ℕ → List ℕ → Type 0) (top : ℕ) (one : (i : ℕ) → i < top → Peels (I i) (t i))
+module _ {a : Area} (t : ℕ → Step) (I : ℕ → List ℕ → Type 0) (top : ℕ) (one : (i : ℕ) → i < top → Peels a (I i) (t i))
     (on : (i : ℕ) (f : List ℕ) → i < top → I i f → t i f ≡ [] → I (suc i) f)
     (back : (i : ℕ) (f : List ℕ) → i < top → I (suc i) f → I i f × (t i f ≡ [])) where
-  pub each-peels : (n i : ℕ) → i + n ≡ top → Peels (I i) (each t n i)
+  pub each-peels : (n i : ℕ) → i + n ≡ top → Peels a (I i) (each t n i)
   each-peels zero i e = record { first = λ f j x xs c. absurd (nil≢cons c) }
   each-peels (suc n) i e = then-peels (one i (omega arith)) (each-peels n (suc i) (omega arith)) (λ f j z. on i f (omega arith) j z) (λ f j. back i f (omega arith) j)
 

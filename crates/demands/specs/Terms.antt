@@ -3,33 +3,37 @@ use mathlib.Core.Path.{_≡_}
 use mathlib.Core.List.{List, [], _∷_}
 use mathlib.Core.Bool.{Bool, true, false, cond}
 use mathlib.Core.Option.{Option, some, none}
-use mathlib.Core.Logic.{_≢_}
+use mathlib.Core.Logic.{_≢_, _⊎_}
 use Prim.Native.Nat.{ℕ, suc, _+_, _*_, _≤_, _<_}
 use lib.ListN.{length, getD, take, drop}
 use lib.Bits.{bitAnd}
 use lib.Dec.{eqb}
-use Rattle.flash.specs.Stores.{Words, Store, put, wipe, stored, wiped, made}
+use Rattle.flash.specs.Stores.{Words, Store, put, stored, apply, made}
 use Rattle.rules.specs.declared.Area.{Area}
 use Rattle.rules.specs.declared.Answer.{Answer}
 use Rattle.rules.specs.declared.Refusal.the-variants.{NotFound}
 use Rattle.rules.specs.Words.{header}
 use Rattle.rules.specs.Walk.{entryLength}
-use Rattle.rules.specs.Areas.{Entry, pageEntries, entries, anyOf, liveOf, find, mapOf, liveWords, ready}
-use Rattle.rules.specs.Refusals.{wrongGeometry, badHandle, badLength, isNone, holds, Outcome, outcome}
-use Rattle.rules.specs.Lists.{roomPage, compactPage, recoverList, Request, format, recover, write, delete, planOf}
+use Rattle.rules.specs.Areas.{R, base, Entry, pageEntries, entries, anyOf, liveOf, find, mapOf, liveWords, ready}
+use Rattle.rules.specs.Refusals.{badHandle, badLength, isNone, holds, Outcome, outcome}
+use Rattle.rules.specs.Lists.{erase, roomPage, compactPage, recoverList, Request, format, recover, write, delete, planOf}
 
--- a flash of 32-bit words, and an area on it whose geometry is right
+-- a flash of 32-bit words, and an area on it of N pages, 1 to 255, in one of the three sizes, with R behind them
 pub record Given (a : Area) (f : List ℕ) : Type 0 where
   pub words : Words f
-  pub right : wrongGeometry a f ≡ false
+  pub some-pages : 1 ≤ a .pages
+  pub few-pages : a .pages ≤ 255
+  pub size : (a .words ≡ 64) ⊎ ((a .words ≡ 256) ⊎ (a .words ≡ 1024))
+  pub long : length f ≡ (a .pages + 1) * a .words
 
--- Made in order on the flash f, each store lies inside it, and each word store leaves the very word that it asks for: no cleared bit
--- is asked to come back.
-pub data Fair : List Store → List ℕ → Type 0 where
-  fair-end : {f : List ℕ} → Fair [] f
-  fair-put : {at w : ℕ} {ss : List Store} {f : List ℕ} → at < length f → bitAnd (getD f at 0) w ≡ w → Fair ss (stored f at w)
-      → Fair (put at w ∷ ss) f
-  fair-wipe : {at n : ℕ} {ss : List Store} {f : List ℕ} → at + n ≤ length f → Fair ss (wiped f at n) → Fair (wipe at n ∷ ss) f
+-- Made in order on the flash f, each word store lies inside it and leaves the very word that it asks for, so that no cleared bit is
+-- asked to come back; and each erase is of one whole page of the area, or of R.
+pub data Fair (a : Area) : List Store → List ℕ → Type 0 where
+  fair-end : {f : List ℕ} → Fair a [] f
+  fair-put : {at w : ℕ} {ss : List Store} {f : List ℕ} → at < length f → bitAnd (getD f at 0) w ≡ w → Fair a ss (stored f at w)
+      → Fair a (put at w ∷ ss) f
+  fair-wipe : {i : ℕ} {ss : List Store} {f : List ℕ} → i ≤ R a → base a i + a .words ≤ length f → Fair a ss (apply (erase a i) f)
+      → Fair a (erase a i ∷ ss) f
 
 -- how many stores a write has: none for data that is held; n + 2 for n words, or n + 3 where the handle has an entry; and in front of
 -- them, where page i is compacted, 2L + 8 for its L live words
@@ -98,8 +102,9 @@ abbrev pub newWordsAll : List Request → ℕ
 newWordsAll [] = 0
 newWordsAll (r ∷ rs) = newWords r + newWordsAll rs
 
--- the area is ready, and its map is m
+-- the area, still one as given, is ready, and its map is m
 pub record Holds (a : Area) (f : List ℕ) (m : Map) : Type 0 where
+  pub given : Given a f
   pub ready : ready a f ≡ true
   pub map : (u : ℕ) → mapOf a f u ≡ m u
 
