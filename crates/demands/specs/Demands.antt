@@ -11,9 +11,10 @@ use native.Mathlib.Omega.{arith}
 use lib.ListN.{length, take, drop}
 use lib.Bits.{bitAnd}
 use lib.Dec.{eqb}
-use borrow.Author.Tests.{eq-eqb}
+use borrow.Author.Tests.{eq-eqb, le-leb, lt-leb}
 use Rattle.flash.specs.Stores.{Store, made, madeFirst}
 use Rattle.rules.specs.declared.Area.{Area}
+use Rattle.rules.specs.declared.Refusal.{Refusal}
 use Rattle.rules.specs.declared.Refusal.the-variants.{NotFound}
 use Rattle.rules.specs.declared.Answer.{Answer}
 use Rattle.rules.specs.declared.Reading.{Reading}
@@ -21,20 +22,20 @@ use Rattle.rules.specs.declared.Yielded.{Yielded}
 use Rattle.rules.specs.Words.{longest, lastSeal, isLive}
 use Rattle.rules.specs.Walk.{stop, sealed}
 use Rattle.rules.specs.Areas.{page, kind, committed, recovery, entries, twice, dataOf, mapOf, liveWords, damaged, ready}
-use Rattle.rules.specs.Refusals.{badHandle, areaQuota, formatChecks, recoverChecks, writeChecks, findChecks, list}
+use Rattle.rules.specs.Refusals.{badHandle, formatChecks, recoverChecks, writeChecks, findChecks, Plan, refuse, list, outcomeOf}
 use Rattle.rules.specs.Lists.{formatList, deleteList, compact, roomPage, compactPage, writeList, recoverList, Request, format, recover, write, delete, planOf}
 use Rattle.rules.specs.Search.{readOf, badPlace, searchOf}
-use Rattle.demands.specs.Terms.{Given, Fair, WriteStores, Typed, Change, Proper, handleIn, newWords, Map, changed, changedAll, newWordsAll, Holds, run, recovered, Recovers, Tried, Carried, CarriedAll, ProperAll, AllDiffer, FineAll, StandsAt, lastLive}
+use Rattle.demands.specs.Terms.{Given, Fair, WriteStores, Typed, Change, Proper, handleIn, newWords, Map, changed, changedAll, WithinQuota, newWordsAll, Holds, wasCut, run, recovered, Recovers, Tried, CarriedAll, ProperAll, AllDiffer, FineAll, StandsAt, lastLive}
 use Rattle.demands.specs.Runs.{Usable, usable, given-of, shape-of}
 use Rattle.demands.specs.Entries.{once-last}
-use Rattle.demands.specs.Mending.{Stands, ready-stands, ready-sound}
+use Rattle.demands.specs.Mending.{given-first, Stands, ready-stands, ready-sound}
 use Rattle.demands.specs.Finishing.{Undamaged, recover-resumes, recover-fair, recover-ready, ready-rests, recovered-last}
 use Rattle.demands.specs.Format.{format-fair, format-settled, format-ready, format-empty, format-length}
 use Rattle.demands.specs.Room.{compact-page, compact-exists}
 use Rattle.demands.specs.Compacting.{packed-stands, packed-room}
 use Rattle.demands.specs.Reading.{read-held, read-absent, held-read, search-yields, search-skips-none, search-read}
-use Rattle.demands.specs.Requests.{Changes, listed, delete-list, write-counts, write-most, changes, change-ready, run-safe, recover-planned, recovers-ends, recover-exists, Left, before, after}
-use Rattle.demands.specs.Orders.{tried, carried-all, reordered, carry-exists}
+use Rattle.demands.specs.Requests.{Changes, listed, delete-list, write-counts, write-most, changes, change-ready, run-safe, recover-planned, recovers-ends, proper-of, Left, before, after}
+use Rattle.demands.specs.Orders.{tried, enough, carried-all, reordered}
 
 module _ {a : Area} {f : List ℕ} (given : Given a f) where
   -- the terms of the proofs for those of the claims
@@ -53,6 +54,22 @@ module _ {a : Area} {f : List ℕ} (given : Given a f) where
   changed-by : (r : Request) → Change r → (ss : List Store) → planOf a r f ≡ list ss
       → Changes a (mapOf a f) (liveWords (entries a f)) (changed r (mapOf a f)) (liveWords (entries a f) + newWords r) f ss
   changed-by r c ss e = changes (stands (change-ready a f r c ss e)) r c ss e
+
+  -- ---- 0. What power does: of a plan's list the first k stores are made, or all of them if there are fewer, and as many are counted; a
+  -- refusal makes none. The area stays one as given.
+  pub with-power : (r : Request) (ss : List Store) → planOf a r f ≡ list ss → (k : ℕ)
+      → (run a r k f .flash ≡ madeFirst k ss f) × (length ss ≤ k → run a r k f .answer ≡ Answer.Done (length ss)) × (k < length ss → run a r k f .answer ≡ Answer.Cut k)
+  with-power r ss e k = rw e (refl, (λ l. rw (le-leb (length ss) k l)), (λ l. rw (lt-leb (length ss) k l)))
+
+  pub refused : (r : Request) (n : Refusal) → planOf a r f ≡ refuse n → (k : ℕ) → (run a r k f .flash ≡ f) × (run a r k f .answer ≡ Answer.Refused n)
+  refused r n e k = rw e (refl, refl)
+
+  pub stays-given : (r : Request) (k : ℕ) → Given a (run a r k f .flash)
+  stays-given r k = go (planOf a r f)
+    where
+      go : (p : Plan) → Given a (outcomeOf p k f .flash)
+      go (refuse n) = given
+      go (list ss) = given-of (given-first k ss fit)
 
   -- ---- 1. No store asks a cleared bit to come back, and each lies inside the run: whatever a plan lists, for whatever is asked.
   pub no-bit-back : (r : Request) → Typed r → (ss : List Store) → planOf a r f ≡ list ss → Fair a ss f
@@ -76,7 +93,7 @@ module _ {a : Area} {f : List ℕ} (given : Given a f) where
       let k = listed (writeChecks a f h d) (writeList a h d f) ss e in
       let t = k .0 .1 .1 .1 in
       let s = stands (change-ready a f (write h d) c ss e) in
-      let p : Proper (write h d) = (t .0, t .1 .0, c) in
+      let p = proper-of h d (t .0) (t .1 .0) c in
       let w = rw (k .1) at (write-counts s h d p (t .1 .1 .0)) in
       (w, write-most s h d p (length ss) w)
 
@@ -84,7 +101,7 @@ module _ {a : Area} {f : List ℕ} (given : Given a f) where
   ready-stores r = recover-planned (undamaged (ready-sound a f fit r)) ∙ ap list (ready-rests a f fit r)
 
   -- ---- 3. Within the quota there is room: where no page has it a page to compact exists, and compacted that very page has it, with the map as it was.
-  pub room : ready a f ≡ true → (l : ℕ) → l ≤ longest → liveWords (entries a f) + l ≤ areaQuota a → roomPage a f l ≡ none
+  pub room : ready a f ≡ true → (l : ℕ) → l ≤ longest → WithinQuota a (liveWords (entries a f) + l) → roomPage a f l ≡ none
       → (i : ℕ) × (compactPage a f l ≡ some i) × (stop (page a (made (compact a i f) f) i) + l ≤ lastSeal (a .words))
       × Holds a (made (compact a i f) f) (mapOf a f)
   room r l h q e = go (compactPage a f l) refl
@@ -162,51 +179,54 @@ module _ {a : Area} {f : List ℕ} (given : Given a f) where
   unfolding mapOf
   loses-nothing d c s t u = keeps-last d c s u ∙ ap dataOf (sym (once-last u (entries a f) t))
 
-  -- ---- 6. A write or a delete on a ready area with power for k stores, then recoveries, any number of them cut and the last one not: the
-  -- area is ready, and the map is the one from before or the one from after.
+  -- ---- 6. A write or a delete on a ready area with power for k stores, whatever k, leaves an undamaged area; then recoveries, each with any
+  -- power and the last one not cut: the area is ready, and the map is the one from before or the one from after.
+  pub never-damaged : ready a f ≡ true → (r : Request) → Change r → (k : ℕ) → damaged a (run a r k f .flash) ≡ false
+  never-damaged e r c k = run-safe (stands e) r c k .undamaged .sound
+
   pub before-or-after : ready a f ≡ true → (r : Request) → Change r → (k : ℕ) (g : List ℕ) → Recovers a (run a r k f .flash) g
       → Holds a g (mapOf a f) ⊎ Holds a g (changed r (mapOf a f))
-  before-or-after r q c k g t =
-      let w = run-safe (stands r) q c k in
-      let e = recovers-ends (w .undamaged) t in
-      ⊎-elim (λ x. inl (rw e (holds x))) (λ x. inr (rw e (holds x))) (w .ends)
+  before-or-after e r c k g t =
+      let w = run-safe (stands e) r c k in
+      let q = recovers-ends (w .undamaged) t in
+      ⊎-elim (λ x. inl (rw q (holds x))) (λ x. inr (rw q (holds x))) (w .ends)
 
-  -- ---- 7. Demand 3. Requests on handles that all differ, their new words within the quota, each carried through with any cuts: the area
-  -- is ready, the map is the starting one with all changes made, and each answers DONE, or NOTFOUND for a delete of what is not there.
-  pub all-made : ready a f ≡ true → (rs : List Request) → ProperAll rs → AllDiffer rs → liveWords (entries a f) + newWordsAll rs ≤ areaQuota a
-      → (xs : List Answer) (g : List ℕ) → CarriedAll a rs f xs g → Holds a g (changedAll rs (mapOf a f)) × FineAll (mapOf a f) rs xs
-  all-made r rs p o q xs g c = let w = carried-all a rs (mapOf a f) (liveWords (entries a f)) f p o (stands r) q xs g c in (holds (w .0), w .1)
+  -- ---- 7. Demand 3. Requests of legal handle and length, their new words and all live ones within the quota, each carried through with any
+  -- cuts: the area is ready, the map is the starting one with all changes made, and each answers DONE, or NOTFOUND for a delete.
+  pub all-made : ready a f ≡ true → (rs : List Request) → ProperAll rs → WithinQuota a (liveWords (entries a f) + newWordsAll rs)
+      → (xs : List Answer) (g : List ℕ) → CarriedAll a rs f xs g → Holds a g (changedAll rs (mapOf a f)) × FineAll rs xs
+  all-made e rs p q xs g c = let w = carried-all a rs (mapOf a f) (liveWords (entries a f)) f p (stands e) q xs g c in (holds (w .0), w .1)
 
-  -- In any order the map is the same.
+  -- On handles that all differ the map is the same in any order.
   pub any-order : ready a f ≡ true → (rs qs : List Request) → List·Permᴰ rs qs → ProperAll rs → AllDiffer rs
-      → liveWords (entries a f) + newWordsAll rs ≤ areaQuota a → (xs : List Answer) (g : List ℕ) → CarriedAll a qs f xs g
-      → Holds a g (changedAll rs (mapOf a f)) × FineAll (mapOf a f) qs xs
-  any-order r rs qs t p o q xs g c = let w = reordered a rs qs t (mapOf a f) (liveWords (entries a f)) f p o (stands r) q xs g c in (holds (w .0), w .1)
+      → WithinQuota a (liveWords (entries a f) + newWordsAll rs) → (xs : List Answer) (g : List ℕ) → CarriedAll a qs f xs g
+      → Holds a g (changedAll rs (mapOf a f)) × FineAll qs xs
+  any-order e rs qs t p o q xs g c = let w = reordered a rs qs t (mapOf a f) (liveWords (entries a f)) f p o (stands e) q xs g c in (holds (w .0), w .1)
 
-  -- Of two requests.
+  -- Of two requests: both orders end in the same map, the starting one with both changes made.
   pub either-order : ready a f ≡ true → (r q : Request) → Proper r → Proper q → handleIn r ≢ handleIn q
-      → liveWords (entries a f) + (newWords r + newWords q) ≤ areaQuota a
+      → WithinQuota a (liveWords (entries a f) + (newWords r + newWords q))
       → (xs ys : List Answer) (g k : List ℕ) → CarriedAll a (r ∷ (q ∷ [])) f xs g → CarriedAll a (q ∷ (r ∷ [])) f ys k
-      → Holds a g (changed q (changed r (mapOf a f))) × Holds a k (changed q (changed r (mapOf a f)))
+      → Holds a g (changed q (changed r (mapOf a f))) × Holds a k (changed q (changed r (mapOf a f))) × FineAll (r ∷ (q ∷ [])) xs × FineAll (q ∷ (r ∷ [])) ys
   either-order e r q p o d l xs ys g k c b =
-      let z : liveWords (entries a f) + (newWords r + (newWords q + 0)) ≤ areaQuota a = omega arith in
-      let differ : AllDiffer (r ∷ (q ∷ [])) = (((λ x. d (sym x)), tt), (tt, tt)) in (
-        all-made e (r ∷ (q ∷ [])) (p, (o, tt)) differ z xs g c .0,
-        any-order e (r ∷ (q ∷ [])) (q ∷ (r ∷ [])) (List·Permᴰ·swap refl refl) (p, (o, tt)) differ z ys k b .0,
-      )
+      let z : WithinQuota a (liveWords (entries a f) + (newWords r + (newWords q + 0))) = omega arith in
+      let differ : AllDiffer (r ∷ (q ∷ [])) = (((λ x. d (sym x)), tt), (tt, tt)) in
+      let x = all-made e (r ∷ (q ∷ [])) (p, (o, tt)) z xs g c in
+      let y = any-order e (r ∷ (q ∷ [])) (q ∷ (r ∷ [])) (List·Permᴰ·swap refl refl) (p, (o, tt)) differ z ys k b in
+      (x .0, y .0, x .1, y .1)
 
-  -- After each cut and full recovery of a request that is being carried through, the map is the one from before or the one from after it.
-  pub after-each-cut : ready a f ≡ true → (r : Request) → Proper r → liveWords (entries a f) + newWords r ≤ areaQuota a → (g : List ℕ) → Tried a r f g
-      → Holds a g (mapOf a f) ⊎ Holds a g (changed r (mapOf a f))
-  after-each-cut e r p q g t = go (tried a r (mapOf a f) (liveWords (entries a f)) f p (stands e) q g t)
+  -- After each cut and full recovery, of the first request or of a later one, the map is the one from before that request or the one from
+  -- after it; and with power enough the request then runs uncut.
+  pub after-each-cut : ready a f ≡ true → (rs : List Request) → ProperAll rs → (r : Request) → Proper r
+      → WithinQuota a (liveWords (entries a f) + newWordsAll rs + newWords r) → (xs : List Answer) (g h : List ℕ) → CarriedAll a rs f xs g → Tried a r g h
+      → (Holds a h (changedAll rs (mapOf a f)) ⊎ Holds a h (changed r (changedAll rs (mapOf a f))))
+      × ((s : ℕ) × ((k : ℕ) → s ≤ k → wasCut (run a r k h .answer) ≡ false))
+  after-each-cut e rs p r o q xs g h c t =
+      let n = liveWords (entries a f) + newWordsAll rs in
+      let w = carried-all a rs (mapOf a f) (liveWords (entries a f)) f p (stands e) (omega arith) xs g c .0 in
+      let l = tried a r (changedAll rs (mapOf a f)) n g o q (before w) h t in
+      (go l, enough a r (changedAll rs (mapOf a f)) n h o q l)
     where
-      go : Left a r (mapOf a f) (liveWords (entries a f)) g → Holds a g (mapOf a f) ⊎ Holds a g (changed r (mapOf a f))
+      go : {m : Map} {n : ℕ} → Left a r m n h → Holds a h m ⊎ Holds a h (changed r m)
       go (before s) = inl (holds s)
       go (after s c) = inr (holds s)
-
-  -- They can be carried through: no cut shuts the way.
-  pub can-recover : damaged a f ≡ false → (g : List ℕ) × Recovers a f g
-  can-recover d = recover-exists (undamaged d)
-
-  pub can-carry : ready a f ≡ true → (r : Request) → Proper r → liveWords (entries a f) + newWords r ≤ areaQuota a → (x : Answer) × (g : List ℕ) × Carried a r f x g
-  can-carry r q p l = carry-exists a q (mapOf a f) (liveWords (entries a f)) f p (stands r) l

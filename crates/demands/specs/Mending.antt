@@ -8,10 +8,10 @@ use mathlib.Core.Option.{Option, some}
 use Prim.Native.Nat.{ℕ, suc, _+_, _≤_, _<_, zero-le}
 use native.Mathlib.Omega.{arith}
 use native.Mathlib.Nat.{eq-or-lt-of-le, le-of-suc-le-suc, le-refl}
-use lib.ListN.{length, getD, length-append}
+use lib.ListN.{length, getD, take, length-append}
 use lib.Dec.{eqb, ltb}
 use borrow.Author.Tests.{not-true, not-false}
-use Rattle.flash.specs.Stores.{blank, Store, put, apply, made, Step, _then_, each}
+use Rattle.flash.specs.Stores.{blank, Store, put, apply, made, madeFirst, Step, _then_, each}
 use Rattle.flash.specs.Laws.{words-made, length-made}
 use Rattle.rules.specs.declared.Area.{Area}
 use Rattle.rules.specs.Words.{indexOf, header, isLive, seal}
@@ -29,6 +29,10 @@ use Rattle.demands.specs.Layout.{entryAt, placed-append, located}
 
 pub given-made : {a : Area} {f : List ℕ} (ss : List Store) → Usable a f → Usable a (made ss f)
 given-made {a} {f} ss g = record { words = words-made ss (g .words); right = right-wrong a f (made ss f) (g .right) (length-made ss f) }
+
+pub given-first : {a : Area} {f : List ℕ} (k : ℕ) (ss : List Store) → Usable a f → Usable a (madeFirst k ss f)
+unfolding madeFirst
+given-first k ss g = given-made (take k ss) g
 
 -- ---- R
 pub blank-free : (n p : ℕ) → recoveryOf n (blanks p) ≡ free

@@ -1,30 +1,26 @@
 -- Demand 3: requests on handles that all differ, each cut, recovered and asked again any number of times, leave an area that stands with
 -- all changes made; their answers are right; and their order does not matter. Assumes nothing.
 use mathlib.Core.Path.{_≡_, refl, ap, ap₂, sym, _∙_, fun-ext, subst}
-use mathlib.Core.List.{List, [], _∷_, List·Permᴰ, List·Permᴰ·nil, List·Permᴰ·cons, List·Permᴰ·swap, List·Permᴰ·trans}
-use mathlib.Core.Bool.{Bool, true, false, false≢true}
+use mathlib.Core.List.{List, List·Permᴰ, List·Permᴰ·nil, List·Permᴰ·cons, List·Permᴰ·swap, List·Permᴰ·trans}
+use mathlib.Core.Bool.{Bool, true, false}
 use mathlib.Core.Option.{none}
 use mathlib.Core.Logic.{_≢_, Ne·symm}
-use Prim.Native.Nat.{ℕ, _+_, _≤_, _<_, zero-le}
+use Prim.Native.Nat.{ℕ, _+_, _≤_, zero-le}
 use native.Mathlib.Omega.{arith}
-use native.Mathlib.Nat.{le-refl}
 use lib.ListN.{length}
 use lib.Dec.{eqb}
-use borrow.Author.Tests.{eqb-true, ne-eqb, le-leb}
+use borrow.Author.Tests.{eqb-true, le-leb}
 use Rattle.flash.specs.Stores.{Store, made}
 use Rattle.flash.specs.Laws.{first-all, first-nil}
 use Rattle.rules.specs.declared.Area.{Area}
 use Rattle.rules.specs.declared.Answer.{Answer}
 use Rattle.rules.specs.Refusals.{areaQuota, list, outcomeOf}
-use Rattle.rules.specs.Lists.{Request, delete, planOf}
-use Rattle.demands.specs.Terms.{Proper, handleIn, dataIn, newWords, Map, changed, changedAll, newWordsAll, wasCut, run, Recovers, Tried, untried, cut-short, Carried, uncut, CarriedAll, no-more, and-then, ProperAll, Others, AllDiffer, Fine, FineAll}
+use Rattle.rules.specs.Lists.{Request, delete}
+use Rattle.demands.specs.Terms.{Proper, handleIn, dataIn, newWords, Map, changed, changedAll, newWordsAll, wasCut, run, Tried, untried, and-tried, Carried, uncut, CarriedAll, no-more, and-then, ProperAll, Others, AllDiffer, Fine, FineAll}
 use Rattle.demands.specs.Mending.{Stands}
-use Rattle.demands.specs.Requests.{stands-as, uncut-list, cut-list, Planned, stores, absent, Left, before, after, plans, leaves}
+use Rattle.demands.specs.Requests.{stands-as, uncut-list, Planned, stores, absent, no-stores, not-found, Left, before, after, plans, leaves}
 
 -- ---- changes of maps
-unchanged : (r : Request) (m : Map) (u : ℕ) → u ≢ handleIn r → changed r m u ≡ m u
-unchanged r m u e = rw (ne-eqb u (handleIn r) e)
-
 -- to give none to a handle that has none changes nothing
 changed-none : (r : Request) (m : Map) → dataIn r ≡ none → m (handleIn r) ≡ none → (u : ℕ) → m u ≡ changed r m u
 changed-none r m d e u = go (eqb u (handleIn r)) refl
@@ -82,30 +78,10 @@ all-changes _ _ (List·Permᴰ·swap {a = a} {b = b} {l = l} e d) o m u =
 all-changes _ _ (List·Permᴰ·trans {l₁ = l₁} {l₂ = l₂} {l₃ = l₃} p q) o m u = all-changes l₁ l₂ p o m u ∙ all-changes l₂ l₃ q (perm-differ p o) m u
 
 -- ---- answers
--- a request that has nothing to do is never cut, and leaves the flash
-nothing-tried : {a : Area} {r : Request} {f g : List ℕ} → planOf a r f ≡ list [] → Tried a r f g → g ≡ f
-nothing-tried e untried = refl
-nothing-tried e (cut-short {f} k c _ _) = let l : k < 0 = cut-list [] k f (rw e at c) in absurd (let z : ⊥ = omega arith in z)
-
-nothing-run : (a : Area) (r : Request) (k : ℕ) (f : List ℕ) → planOf a r f ≡ list [] → (run a r k f .flash ≡ f) × (run a r k f .answer ≡ Answer.Done 0)
-nothing-run a r k f e = rw e (first-nil k f, rw (le-leb 0 k zero-le) refl)
-
--- what is right for a changed map was so before, on another handle
-fine-before : (r q : Request) (m : Map) (x : Answer) → handleIn q ≢ handleIn r → Fine (changed r m) q x → Fine m q x
-fine-before r q m (Answer.Done s) o y = y
-fine-before r q m (Answer.Cut s) o y = y
-fine-before r q m (Answer.Refused n) o y = (y .0, y .1, sym (unchanged r m (handleIn q) o) ∙ y .2)
-
-fine-all-before : (r : Request) (m : Map) (qs : List Request) (xs : List Answer) → Others (handleIn r) qs → FineAll (changed r m) qs xs → FineAll m qs xs
-fine-all-before r m [] [] o y = y
-fine-all-before r m [] (x ∷ xs) o y = y
-fine-all-before r m (q ∷ qs) [] o y = y
-fine-all-before r m (q ∷ qs) (x ∷ xs) o y = (fine-before r q m x (o .0) (y .0), fine-all-before r m qs xs (o .1) (y .1))
-
 -- all stores of a list made
-list-stands : (a : Area) (r : Request) (m k : Map) (n l : ℕ) (f : List ℕ) (ss : List Store) → Stands a k n (made ss f) → length ss ≤ l
-    → Stands a k n (outcomeOf (list ss) l f .flash) × Fine m r (outcomeOf (list ss) l f .answer)
-list-stands a r m k n l f ss s h = rw (le-leb (length ss) l h, first-all l ss f h) (s, tt)
+list-stands : (a : Area) (r : Request) (k : Map) (n l : ℕ) (f : List ℕ) (ss : List Store) → Stands a k n (made ss f) → length ss ≤ l
+    → Stands a k n (outcomeOf (list ss) l f .flash) × Fine r (outcomeOf (list ss) l f .answer)
+list-stands a r k n l f ss s h = rw (le-leb (length ss) l h, first-all l ss f h) (s, tt)
 
 -- a delete of what is not there makes its change by doing nothing
 absent-stands : (a : Area) (r : Request) (m : Map) (n : ℕ) (f : List ℕ) → Stands a m n f → r ≡ delete (handleIn r) → m (handleIn r) ≡ none
@@ -123,58 +99,52 @@ absent-stands a r m n f s e d =
 module _ (a : Area) where
   -- a request that is not cut makes its change
   uncut-stands : (r : Request) (m : Map) (n : ℕ) (f : List ℕ) → Stands a m n f → Planned a r m n f → (k : ℕ) → wasCut (run a r k f .answer) ≡ false
-      → Stands a (changed r m) (n + newWords r) (run a r k f .flash) × Fine m r (run a r k f .answer)
-  uncut-stands r m n f s (stores ss e t) k c = rw e (list-stands a r m (changed r m) (n + newWords r) k f ss t (uncut-list ss k f (rw e at c)))
-  uncut-stands r m n f s (absent e d z) k c = rw e (absent-stands a r m n f s d z, (refl, d, z))
+      → Stands a (changed r m) (n + newWords r) (run a r k f .flash) × Fine r (run a r k f .answer)
+  uncut-stands r m n f s (stores ss e t) k c = rw e (list-stands a r (changed r m) (n + newWords r) k f ss t (uncut-list ss k f (rw e at c)))
+  uncut-stands r m n f s (absent e d z) k c = rw e (absent-stands a r m n f s d z, (refl, d))
 
-  -- a request that is cut, and then recovered
-  cut-leaves : (r : Request) (m : Map) (n : ℕ) (f : List ℕ) → Proper r → Stands a m n f → n + newWords r ≤ areaQuota a → Planned a r m n f
-      → (k : ℕ) → wasCut (run a r k f .answer) ≡ true → (g : List ℕ) → Recovers a (run a r k f .flash) g → Left a r m n g
-  cut-leaves r m n f p s q (stores ss e t) k c g v = leaves a r m n f p s q ss e k (cut-list ss k f (rw e at c)) g (rw e at v)
-  cut-leaves r m n f p s q (absent e d z) k c g v = absurd (false≢true (rw e at c))
-
-  -- a request, however often it is cut, recovered and asked again
-  pub tried : (r : Request) (m : Map) (n : ℕ) (f : List ℕ) → Proper r → Stands a m n f → n + newWords r ≤ areaQuota a → (g : List ℕ) → Tried a r f g → Left a r m n g
-  tried r m n f p s q _ untried = before s
-  tried r m n f p s q g (cut-short {g = h} k c v t) = left (cut-leaves r m n f p s q (plans a r m n f p s q) k c h v) (λ y. tried r m n h p y q g t)
-    where
-      left : Left a r m n h → (Stands a m n h → Left a r m n g) → Left a r m n g
-      left (before y) again = again y
-      left (after y e) again = subst (Left a r m n) (sym (nothing-tried e t)) (after y e)
+  -- a request, however often it is tried
+  pub tried : (r : Request) (m : Map) (n : ℕ) (f : List ℕ) → Proper r → n + newWords r ≤ areaQuota a → Left a r m n f → (g : List ℕ) → Tried a r f g → Left a r m n g
+  tried r m n f p q l _ untried = l
+  tried r m n f p q l g (and-tried {g = h} k v t) = tried r m n h p q (leaves a r m n f p q l k h v) g t
 
   -- and at last not cut
-  pub carried : (r : Request) (m : Map) (n : ℕ) (f : List ℕ) → Proper r → Stands a m n f → n + newWords r ≤ areaQuota a
-      → (x : Answer) (g : List ℕ) → Carried a r f x g → Stands a (changed r m) (n + newWords r) g × Fine m r x
-  carried r m n f p s q _ _ (uncut {g = h} k t c) = left (tried r m n f p s q h t)
-    where
-      left : Left a r m n h → Stands a (changed r m) (n + newWords r) (run a r k h .flash) × Fine m r (run a r k h .answer)
-      left (before y) = uncut-stands r m n h y (plans a r m n h p y q) k c
-      left (after y e) = let z = nothing-run a r k h e in rw (z .0, z .1) (y, tt)
+  left-stands : (r : Request) (m : Map) (n : ℕ) (f : List ℕ) → Proper r → n + newWords r ≤ areaQuota a → Left a r m n f → (k : ℕ) → wasCut (run a r k f .answer) ≡ false
+      → Stands a (changed r m) (n + newWords r) (run a r k f .flash) × Fine r (run a r k f .answer)
+  left-stands r m n f p q (before s) k c = uncut-stands r m n f s (plans a r m n f p s q) k c
+  left-stands r m n f p q (after s (no-stores e)) k c = rw e (rw (first-nil k f, le-leb 0 k zero-le) (s, tt))
+  left-stands r m n f p q (after s (not-found e d)) k c = rw e (s, (refl, d))
 
-  -- several requests; an answer is right for the map as it was before all of them
-  pub carried-all : (rs : List Request) (m : Map) (n : ℕ) (f : List ℕ) → ProperAll rs → AllDiffer rs → Stands a m n f
-      → n + newWordsAll rs ≤ areaQuota a → (xs : List Answer) (g : List ℕ) → CarriedAll a rs f xs g
-      → Stands a (changedAll rs m) (n + newWordsAll rs) g × FineAll m rs xs
-  carried-all _ m n f p o s q _ _ no-more = let e : n + 0 ≡ n = omega arith in rw e (s, tt)
-  carried-all _ m n f p o s q _ h (and-then {r = r} {rs = rs} {g = g} {x = x} {xs = xs} c cs) =
+  pub carried : (r : Request) (m : Map) (n : ℕ) (f : List ℕ) → Proper r → Stands a m n f → n + newWords r ≤ areaQuota a
+      → (x : Answer) (g : List ℕ) → Carried a r f x g → Stands a (changed r m) (n + newWords r) g × Fine r x
+  carried r m n f p s q _ _ (uncut {g = h} k t c) = left-stands r m n h p q (tried r m n f p q (before s) h t) k c
+
+  -- power enough there always is
+  pub enough : (r : Request) (m : Map) (n : ℕ) (f : List ℕ) → Proper r → n + newWords r ≤ areaQuota a → Left a r m n f
+      → (s : ℕ) × ((k : ℕ) → s ≤ k → wasCut (run a r k f .answer) ≡ false)
+  enough r m n f p q (before s) = go (plans a r m n f p s q)
+    where
+      go : Planned a r m n f → (s : ℕ) × ((k : ℕ) → s ≤ k → wasCut (run a r k f .answer) ≡ false)
+      go (stores ss e t) = (length ss, λ k l. rw (e, le-leb (length ss) k l))
+      go (absent e d z) = (0, λ k l. rw e)
+  enough r m n f p q (after s (no-stores e)) = (0, λ k l. rw (e, le-leb 0 k l))
+  enough r m n f p q (after s (not-found e d)) = (0, λ k l. rw e)
+
+  -- several requests
+  pub carried-all : (rs : List Request) (m : Map) (n : ℕ) (f : List ℕ) → ProperAll rs → Stands a m n f → n + newWordsAll rs ≤ areaQuota a
+      → (xs : List Answer) (g : List ℕ) → CarriedAll a rs f xs g → Stands a (changedAll rs m) (n + newWordsAll rs) g × FineAll rs xs
+  carried-all _ m n f p s q _ _ no-more = let e : n + 0 ≡ n = omega arith in rw e (s, tt)
+  carried-all _ m n f p s q _ h (and-then {r = r} {rs = rs} {g = g} {x = x} {xs = xs} c cs) =
       let e : n + (newWords r + newWordsAll rs) ≡ n + newWords r + newWordsAll rs = omega arith in
       let y = carried r m n f (p .0) s (omega arith) x g c in
-      let z = carried-all rs (changed r m) (n + newWords r) g (p .1) (o .1) (y .0) (omega arith) xs h cs in
-      rw e (z .0, (y .1, fine-all-before r m rs xs (o .0) (z .1)))
+      let z = carried-all rs (changed r m) (n + newWords r) g (p .1) (y .0) (omega arith) xs h cs in
+      rw e (z .0, (y .1, z .1))
 
   -- and in another order
   pub reordered : (rs qs : List Request) → List·Permᴰ rs qs → (m : Map) (n : ℕ) (f : List ℕ) → ProperAll rs → AllDiffer rs → Stands a m n f
       → n + newWordsAll rs ≤ areaQuota a → (xs : List Answer) (g : List ℕ) → CarriedAll a qs f xs g
-      → Stands a (changedAll rs m) (n + newWordsAll rs) g × FineAll m qs xs
+      → Stands a (changedAll rs m) (n + newWordsAll rs) g × FineAll qs xs
   reordered rs qs t m n f p o s q xs g c =
       let w = perm-words t in
-      let y = carried-all qs m n f (perm-proper t p) (perm-differ t o) s (omega arith) xs g c in
+      let y = carried-all qs m n f (perm-proper t p) s (omega arith) xs g c in
       (stands-as (λ u. sym (all-changes rs qs t o m u)) (omega arith) (y .0), y .1)
-
-  -- with power enough a request is carried through at once
-  pub carry-exists : (r : Request) (m : Map) (n : ℕ) (f : List ℕ) → Proper r → Stands a m n f → n + newWords r ≤ areaQuota a → (x : Answer) × (g : List ℕ) × Carried a r f x g
-  carry-exists r m n f p s q = go (plans a r m n f p s q)
-    where
-      go : Planned a r m n f → (x : Answer) × (g : List ℕ) × Carried a r f x g
-      go (stores ss e t) = (run a r (length ss) f .answer, run a r (length ss) f .flash, uncut {g = f} (length ss) untried (rw (e, le-leb (length ss) (length ss) (le-refl (length ss)))))
-      go (absent e d z) = (run a r 0 f .answer, run a r 0 f .flash, uncut {g = f} 0 untried (rw e))

@@ -7,11 +7,10 @@ use mathlib.Core.Bool.{Bool, true, false, cond, not, _&&_, true≢false, false�
 use mathlib.Core.Option.{Option, some, none}
 use Prim.Native.Nat.{ℕ, suc, zero, _+_, _-_, _*_, _≤_, _<_}
 use native.Mathlib.Omega.{arith}
-use native.Mathlib.Nat.{le-refl}
 use lib.ListN.{length, length-append}
 use lib.Dec.{leb, eqb}
-use borrow.Author.Tests.{eqb-true, eq-eqb, leb-false, ltb-false, le-ltb, le-leb, lt-leb}
-use Rattle.flash.specs.Stores.{Store, apply, made, madeFirst, _then_}
+use borrow.Author.Tests.{eqb-true, eqb-false, eq-eqb, ne-eqb, leb-false, ltb-false, le-ltb, lt-leb}
+use Rattle.flash.specs.Stores.{Words, Store, apply, made, madeFirst, _then_}
 use Rattle.flash.specs.Laws.{le-or-lt, first-none, first-all, first-nil, first-then}
 use Rattle.rules.specs.declared.Area.{Area}
 use Rattle.rules.specs.declared.Refusal.{Refusal}
@@ -19,10 +18,10 @@ use Rattle.rules.specs.declared.Refusal.the-variants.{NotFound}
 use Rattle.rules.specs.Words.{special, isLive, lastSeal}
 use Rattle.rules.specs.Walk.{entryLength, stop}
 use Rattle.rules.specs.Areas.{page, Entry, pageEntries, entries, twice, find, dataOf, mapOf, liveWords, ready}
-use Rattle.rules.specs.Refusals.{checked, badHandle, isNone, sameWords, isData, holds, areaQuota, noRoom, recoverChecks, writeChecks, findChecks, Plan, refuse, list, outcomeOf}
+use Rattle.rules.specs.Refusals.{checked, badHandle, badLength, isNone, sameWords, isData, holds, areaQuota, noRoom, recoverChecks, writeChecks, findChecks, Plan, refuse, list, outcomeOf}
 use Rattle.rules.specs.Lists.{bare, bareIf, deleteList, deletePlan, compact, roomPage, compactPage, append, appendCompacted, appendTo, writeList, writePlan, recoverList, recoverPlan, Request, format, recover, write, delete, planOf}
 use Rattle.rules.specs.Laws.{and-left, and-right, nor-left, nor-right, Passed, passed-checked, checked-passed}
-use Rattle.demands.specs.Terms.{Fair, fair-end, appendStores, WriteStores, held, appended, compacted, Change, Proper, handleIn, newWords, Map, changed, wasCut, run, recovered, Recovers, whole, after-cut}
+use Rattle.demands.specs.Terms.{Fair, fair-end, appendStores, WriteStores, held, appended, compacted, Change, Proper, handleIn, newWords, Map, changed, wasCut, run, recovered, Recovers, whole, then-again}
 use Rattle.demands.specs.Stages.{after-then, fair-append}
 use Rattle.demands.specs.Runs.{shape-of}
 use Rattle.demands.specs.Entries.{zeroed, twice-skip, once-drop, look-drop, live-skip, live-at, find-some, look}
@@ -52,11 +51,17 @@ safe-after : {a : Area} {m m′ : Map} {n n′ : ℕ} {f : List ℕ} → Stands 
 safe-after {a} {f = f} s = record { undamaged = stands-undamaged s; ends = inr (rw (stands-recovered a f s) s) }
 
 -- ---- handles and data
-handle-live : (h : ℕ) → badHandle h ≡ false → isLive h ≡ true
-handle-live h b = rw (nor-left (eqb h 0) (leb special h) b)
+legal-handle : (h : ℕ) → 1 ≤ h → h ≤ 0x7EFF → badHandle h ≡ false
+legal-handle h l k = rw (ne-eqb h 0 (λ e. omega arith), lt-leb special h (omega arith))
 
-handle-small : (h : ℕ) → badHandle h ≡ false → h < special
-handle-small h b = leb-false special h (nor-right (eqb h 0) (leb special h) b)
+handle-legal : (h : ℕ) → badHandle h ≡ false → (1 ≤ h) × (h ≤ 0x7EFF)
+handle-legal h b =
+    let n = eqb-false h 0 (nor-left (eqb h 0) (leb special h) b) in
+    let l = leb-false special h (nor-right (eqb h 0) (leb special h) b) in
+    (omega arith, omega arith)
+
+legal-live : (h : ℕ) → 1 ≤ h → isLive h ≡ true
+legal-live h l = rw (ne-eqb h 0 (λ e. omega arith))
 
 same-words : (x y : List ℕ) → sameWords x y ≡ true → x ≡ y
 same-words [] [] e = refl
@@ -111,11 +116,8 @@ module _ {a : Area} {m : Map} {n : ℕ} {f : List ℕ} (s : Stands a m n f) (h :
   abbrev n′ : ℕ
   n′ = n + entryLength d
 
-  short : length d ≤ 32
-  short = ltb-false 32 (length d) (p .1)
-
   fitting : (g : List ℕ) (i : ℕ) → i < a .pages → stop (page a g i) + entryLength d ≤ lastSeal (a .words) → Fitting a g i h d
-  fitting g i l r = record { inside = l; live = handle-live h (p .0); small = handle-small h (p .0); short = short; words = p .2; room = r }
+  fitting g i l r = record { inside = l; live = legal-live h (p .0); small = omega (arith, p .1); short = p .2; words = p .3; room = r }
 
   -- to a page that has the room
   append-changes : (i : ℕ) → roomPage a f (entryLength d) ≡ some i → Changes a m n m′ n′ f (append a h d i f)
@@ -174,7 +176,7 @@ module _ {a : Area} {m : Map} {n : ℕ} {f : List ℕ} (s : Stands a m n f) (h :
   write-changes q = go (holds a f h d) refl
     where
       by-compaction : holds a f h d ≡ false → (o : Option ℕ) → compactPage a f (entryLength d) ≡ o → Changes a m n m′ n′ f (appendCompacted a h d o f)
-      by-compaction z none e = let l = short in absurd (compact-exists a f (entryLength d) (shape-of (s .given)) (omega arith) (no-room a f h d q z) e)
+      by-compaction z none e = let l = p .2 in absurd (compact-exists a f (entryLength d) (shape-of (s .given)) (omega arith) (no-room a f h d q z) e)
       by-compaction z (some i) e = compact-changes i e
 
       by-append : holds a f h d ≡ false → (o : Option ℕ) → roomPage a f (entryLength d) ≡ o → Changes a m n m′ n′ f (appendTo a h d o f)
@@ -200,7 +202,7 @@ module _ {a : Area} {m : Map} {n : ℕ} {f : List ℕ} (s : Stands a m n f) (h :
     where
       compact-counts : holds a f h d ≡ false → roomPage a f (entryLength d) ≡ none → (o : Option ℕ) → compactPage a f (entryLength d) ≡ o
           → WriteStores a f h d (length (appendCompacted a h d o f))
-      compact-counts z r none e = let l = short in absurd (compact-exists a f (entryLength d) (shape-of (s .given)) (omega arith) (no-room a f h d q z) e)
+      compact-counts z r none e = let l = p .2 in absurd (compact-exists a f (entryLength d) (shape-of (s .given)) (omega arith) (no-room a f h d q z) e)
       compact-counts z r (some i) e =
           let k : length (appendCompacted a h d (some i) f) ≡ 2 * liveWords (pageEntries a f i) + 8 + appendStores a f h d =
           length-append (compact a i f) (append a h d i (packed s i (inside i e)))
@@ -217,7 +219,7 @@ module _ {a : Area} {m : Map} {n : ℕ} {f : List ℕ} (s : Stands a m n f) (h :
 
   pub write-most : (k : ℕ) → WriteStores a f h d k → k ≤ 2 * a .words + 3
   write-most k (held e) = omega arith
-  write-most k (appended z i e) = let w = shape-of (s .given) .wide in let l = short in let b = most (isNone (find h (entries a f))) in omega arith
+  write-most k (appended z i e) = let w = shape-of (s .given) .wide in let l = p .2 in let b = most (isNone (find h (entries a f))) in omega arith
   write-most k (compacted z r i e) =
       let c = compact-page a f (entryLength d) i e .1 in
       let w = shape-of (s .given) .wide in
@@ -227,7 +229,7 @@ module _ {a : Area} {m : Map} {n : ℕ} {f : List ℕ} (s : Stands a m n f) (h :
   pub write-planned : noRoom a f h d ≡ false → writePlan a h d f ≡ list (writeList a h d f)
   write-planned q =
       let g = s .given in
-      passed-checked refuse (writeChecks a f h d) (list (writeList a h d f)) (g .right, (ready-sound a f g (s .ready), (ready-passed a f (s .ready), (p .0, (p .1, (q, tt))))))
+      passed-checked refuse (writeChecks a f h d) (list (writeList a h d f)) (g .right, (ready-sound a f g (s .ready), (ready-passed a f (s .ready), (legal-handle h (p .0) (p .1), (le-ltb 32 (length d) (p .2), (q, tt))))))
 
 -- ---- a delete
 module _ {a : Area} {m : Map} {n : ℕ} {f : List ℕ} (s : Stands a m n f) (h : ℕ) where
@@ -266,6 +268,9 @@ some-found : (o : Option Entry) → isNone o ≡ false → (e : Entry) × (o ≡
 some-found none e = absurd (true≢false e)
 some-found (some c) e = (c, refl)
 
+pub proper-of : (h : ℕ) (d : List ℕ) → badHandle h ≡ false → badLength d ≡ false → Words d → Proper (write h d)
+proper-of h d b l w = let k = handle-legal h b in (k .0, k .1, ltb-false 32 (length d) l, w)
+
 -- the store of a delete
 pub delete-list : (a : Area) (f : List ℕ) (h : ℕ) (ss : List Store) → deletePlan a h f ≡ list ss → (e : Entry) × (find h (entries a f) ≡ some e) × (ss ≡ bare e ∷ [])
 delete-list a f h ss e =
@@ -280,7 +285,7 @@ changes s recover c ss e = absurd c
 changes {a} {m} {n} {f} s (write h d) c ss e =
     let k = listed (writeChecks a f h d) (writeList a h d f) ss e in
     let t = k .0 .1 .1 .1 in
-    subst (λ (u : List Store). Changes a m n (changed (write h d) m) (n + entryLength d) f u) (k .1) (write-changes s h d (t .0, t .1 .0, c) (t .1 .1 .0))
+    subst (λ (u : List Store). Changes a m n (changed (write h d) m) (n + entryLength d) f u) (k .1) (write-changes s h d (proper-of h d (t .0) (t .1 .0) c) (t .1 .1 .0))
 changes {a} {m} {n} {f} s (delete h) c ss e =
     let w = delete-list a f h ss e in
     let z : n + 0 ≡ n = omega arith in
@@ -301,18 +306,12 @@ run-safe {a} {m} {n} {f} s r c k = go (planOf a r f) refl
     go (refuse x) e = safe-before s
     go (list ss) e = changes s r c ss e .cut k
 
--- a list is cut just when it is longer than the power lasts
+-- a list that is not cut is no longer than the power lasts
 pub uncut-list : (ss : List Store) (k : ℕ) (f : List ℕ) → wasCut (outcomeOf (list ss) k f .answer) ≡ false → length ss ≤ k
 uncut-list ss k f c = ⊎-elim (λ h. h) short (le-or-lt (length ss) k)
   where
     short : k < length ss → length ss ≤ k
     short h = absurd (true≢false (rw (lt-leb (length ss) k h) at c))
-
-pub cut-list : (ss : List Store) (k : ℕ) (f : List ℕ) → wasCut (outcomeOf (list ss) k f .answer) ≡ true → k < length ss
-cut-list ss k f c = ⊎-elim enough (λ h. h) (le-or-lt (length ss) k)
-  where
-    enough : length ss ≤ k → k < length ss
-    enough h = absurd (false≢true (rw (le-leb (length ss) k h) at c))
 
 -- ---- recoveries, cut any number of times
 pub recover-planned : {a : Area} {f : List ℕ} → Undamaged a f → recoverPlan a f ≡ list (recoverList a f)
@@ -322,15 +321,10 @@ pub recovers-ends : {a : Area} {f g : List ℕ} → Undamaged a f → Recovers a
 recovers-ends {a} {f} u (whole k e) =
     let p = recover-planned u in
     ap (λ (x : Plan). outcomeOf x k f .flash) p ∙ first-all k (recoverList a f) f (uncut-list (recoverList a f) k f (rw p at e))
-recovers-ends {a} {f} {g} u (after-cut k e t) =
+recovers-ends {a} {f} {g} u (then-again k t) =
     let p : run a recover k f .flash ≡ madeFirst k (recoverList a f) f = ap (λ (x : Plan). outcomeOf x k f .flash) (recover-planned u) in
     let r = recover-resumes a in
     recovers-ends (subst (Undamaged a) (sym p) (r .keeps f u k)) t ∙ ap (recovered a) p ∙ r .again f u k
-
-pub recover-exists : {a : Area} {f : List ℕ} → Undamaged a f → (g : List ℕ) × Recovers a f g
-recover-exists {a} {f} u =
-    let k = length (recoverList a f) in
-    (run a recover k f .flash, whole {f = f} k (rw (recover-planned u, le-leb (length (recoverList a f)) (length (recoverList a f)) (le-refl (length (recoverList a f))))))
 
 -- ---- what demand 3 follows from
 -- what a request is to do on an area that stands: make stores, all of which leave the area with the change made; or refuse, for a
@@ -339,10 +333,15 @@ pub data Planned (a : Area) (r : Request) (m : Map) (n : ℕ) (f : List ℕ) : T
   stores : (ss : List Store) → planOf a r f ≡ list ss → Stands a (changed r m) (n + newWords r) (made ss f) → Planned a r m n f
   absent : planOf a r f ≡ refuse NotFound → r ≡ delete (handleIn r) → m (handleIn r) ≡ none → Planned a r m n f
 
--- what a cut request leaves after recovery: all as before; or the change made, and asked again the request has nothing to do
+-- asked again when its change is made, a request does nothing: no stores, or NOTFOUND for a delete
+pub data Idle (a : Area) (r : Request) (g : List ℕ) : Type 0 where
+  no-stores : planOf a r g ≡ list [] → Idle a r g
+  not-found : planOf a r g ≡ refuse NotFound → r ≡ delete (handleIn r) → Idle a r g
+
+-- what a request leaves that is tried, and recovered: all as before; or the change made, and the request idle
 pub data Left (a : Area) (r : Request) (m : Map) (n : ℕ) (g : List ℕ) : Type 0 where
   before : Stands a m n g → Left a r m n g
-  after : Stands a (changed r m) (n + newWords r) g → planOf a r g ≡ list [] → Left a r m n g
+  after : Stands a (changed r m) (n + newWords r) g → Idle a r g → Left a r m n g
 
 module _ (a : Area) where
   pub plans : (r : Request) (m : Map) (n : ℕ) (f : List ℕ) → Proper r → Stands a m n f → n + newWords r ≤ areaQuota a → Planned a r m n f
@@ -357,13 +356,13 @@ module _ (a : Area) where
       passed : (o : Option Entry) → find h (entries a f) ≡ o → isNone o ≡ false → deletePlan a h f ≡ list (bareIf o)
       passed o e z =
           let g = s .given in
-          passed-checked refuse (findChecks a f h) (list (deleteList a h f)) (g .right, (ready-sound a f g (s .ready), (ready-passed a f (s .ready), (p, (ap isNone e ∙ z, tt)))))
+          passed-checked refuse (findChecks a f h) (list (deleteList a h f)) (g .right, (ready-sound a f g (s .ready), (ready-passed a f (s .ready), (legal-handle h (p .0) (p .1), (ap isNone e ∙ z, tt)))))
           ∙ ap (λ (x : Option Entry). list (bareIf x)) e
 
       go : (o : Option Entry) → find h (entries a f) ≡ o → Planned a (delete h) m n f
       go none e =
           let g = s .given in
-          absent (rw (g .right, ready-sound a f g (s .ready), ready-passed a f (s .ready), p, e)) refl (sym (stands-look s h) ∙ rw e)
+          absent (rw (g .right, ready-sound a f g (s .ready), ready-passed a f (s .ready), legal-handle h (p .0) (p .1), e)) refl (sym (stands-look s h) ∙ rw e)
       go (some c) e =
           let t = passed (some c) e refl in
           stores (bare c ∷ []) t (changes s (delete h) tt (bare c ∷ []) t .stands)
@@ -375,17 +374,37 @@ module _ (a : Area) where
       let e = map-holds a g h d k in
       write-planned t h d p (room-held a g h d e) ∙ rw e
 
-  pub leaves : (r : Request) (m : Map) (n : ℕ) (f : List ℕ) → Proper r → Stands a m n f → n + newWords r ≤ areaQuota a → (ss : List Store) → planOf a r f ≡ list ss
-      → (k : ℕ) → k < length ss → (g : List ℕ) → Recovers a (madeFirst k ss f) g → Left a r m n g
-  leaves format m n f p s q ss e k l g t = absurd p
-  leaves recover m n f p s q ss e k l g t = absurd p
-  leaves (write h d) m n f p s q ss e k l g t =
-      let c = changes s (write h d) (p .2) ss e .cut k in
+  gone : (h : ℕ) (m : Map) {n : ℕ} (g : List ℕ) → Stands a (changed (delete h) m) n g → Planned a (delete h) (changed (delete h) m) n g → Idle a (delete h) g
+  gone h m g s (absent e d z) = not-found e d
+  gone h m g s (stores ss e t) =
+      let w = delete-list a g h ss e in
+      let x : dataOf (find h (entries a g)) ≡ none = stands-look s h ∙ rw (eq-eqb h h refl) in
+      let y : dataOf (find h (entries a g)) ≡ some (w .0 .words) = ap dataOf (w .1) in
+      absurd (let z : _≡_ {A = ℕ} 0 1 = cc in omega arith)
+
+  idle : (r : Request) (m : Map) (n : ℕ) (g : List ℕ) → Proper r → n + newWords r ≤ areaQuota a → Stands a (changed r m) (n + newWords r) g → Idle a r g
+  idle format m n g p q s = absurd p
+  idle recover m n g p q s = absurd p
+  idle (write h d) m n g p q s = no-stores (write-again h d m g p s)
+  idle (delete h) m n g p q s = gone h m g s (plans (delete h) (changed (delete h) m) (n + 0) g p s (omega arith))
+
+  proper-change : (r : Request) → Proper r → Change r
+  proper-change format p = absurd p
+  proper-change recover p = absurd p
+  proper-change (write h d) p = p .3
+  proper-change (delete h) p = tt
+
+  idle-flash : (r : Request) (k : ℕ) (g : List ℕ) → Idle a r g → run a r k g .flash ≡ g
+  idle-flash r k g (no-stores e) = rw e (first-nil k g)
+  idle-flash r k g (not-found e d) = rw e
+
+  -- one more try
+  pub leaves : (r : Request) (m : Map) (n : ℕ) (f : List ℕ) → Proper r → n + newWords r ≤ areaQuota a → Left a r m n f → (k : ℕ) (g : List ℕ) → Recovers a (run a r k f .flash) g → Left a r m n g
+  leaves r m n f p q (before s) k g t =
+      let c = run-safe s r (proper-change r p) k in
       let w = recovers-ends (c .undamaged) t in
-      ⊎-elim (λ x. before (rw w x)) (λ x. let y : Stands a (changed (write h d) m) (n + entryLength d) g = rw w x in after y (write-again h d m g p y)) (c .ends)
-  leaves (delete h) m n f p s q ss e k l g t =
-      let w = delete-list a f h ss e in
-      let o : length ss ≡ 1 = ap length (w .2) in
-      let z : k ≡ 0 = omega arith in
-      let c : madeFirst k ss f ≡ f = rw z (first-none ss f) in
-      before (rw (recovers-ends (stands-undamaged s) (subst (λ (u : List ℕ). Recovers a u g) c t), stands-recovered a f s) s)
+      ⊎-elim (λ x. before (rw w x)) (λ x. let y : Stands a (changed r m) (n + newWords r) g = rw w x in after y (idle r m n g p q y)) (c .ends)
+  leaves r m n f p q (after s i) k g t =
+      let t′ = subst (λ (u : List ℕ). Recovers a u g) (idle-flash r k f i) t in
+      let w : g ≡ f = recovers-ends (stands-undamaged s) t′ ∙ stands-recovered a f s in
+      rw w (after s i)

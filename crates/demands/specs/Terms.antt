@@ -4,7 +4,7 @@ use mathlib.Core.List.{List, [], _∷_}
 use mathlib.Core.Bool.{Bool, true, false, cond}
 use mathlib.Core.Option.{Option, some, none}
 use mathlib.Core.Logic.{_≢_, _⊎_}
-use Prim.Native.Nat.{ℕ, suc, _+_, _*_, _≤_, _<_}
+use Prim.Native.Nat.{ℕ, suc, _+_, _-_, _*_, _≤_, _<_}
 use lib.ListN.{length, getD, take, drop}
 use lib.Bits.{bitAnd}
 use lib.Dec.{eqb}
@@ -15,7 +15,7 @@ use Rattle.rules.specs.declared.Refusal.the-variants.{NotFound}
 use Rattle.rules.specs.Words.{header}
 use Rattle.rules.specs.Walk.{entryLength}
 use Rattle.rules.specs.Areas.{R, base, Entry, pageEntries, entries, anyOf, liveOf, find, mapOf, liveWords, ready}
-use Rattle.rules.specs.Refusals.{badHandle, badLength, isNone, holds, Outcome, outcome}
+use Rattle.rules.specs.Refusals.{isNone, holds, Outcome, outcome}
 use Rattle.rules.specs.Lists.{erase, roomPage, compactPage, recoverList, Request, format, recover, write, delete, planOf}
 
 -- a flash of 32-bit words, and an area on it of N pages, 1 to 255, in one of the three sizes, with R behind them
@@ -54,19 +54,19 @@ Typed recover = Unit {0}
 Typed (write h d) = Words d
 Typed (delete h) = Unit {0}
 
--- a write or a delete
+-- a write or a delete that anyone can type
 abbrev pub Change : Request → Type 0
 Change format = ⊥
 Change recover = ⊥
 Change (write h d) = Words d
 Change (delete h) = Unit {0}
 
--- one that is refused neither by BADHANDLE nor by BADLENGTH
+-- one of legal handle and length
 abbrev pub Proper : Request → Type 0
 Proper format = ⊥
 Proper recover = ⊥
-Proper (write h d) = (badHandle h ≡ false) × (badLength d ≡ false) × Words d
-Proper (delete h) = badHandle h ≡ false
+Proper (write h d) = (1 ≤ h) × (h ≤ 0x7EFF) × (length d ≤ 32) × Words d
+Proper (delete h) = (1 ≤ h) × (h ≤ 0x7EFF)
 
 -- the handle that a request changes, the data that the handle has afterwards, and the words of a new entry
 abbrev pub handleIn : Request → ℕ
@@ -98,6 +98,10 @@ abbrev pub changedAll : List Request → Map → Map
 changedAll [] m = m
 changedAll (r ∷ rs) m = changedAll rs (changed r m)
 
+-- so many live words are within the quota: N x (D - 33), and D = P - 3
+abbrev pub WithinQuota : Area → ℕ → Type 0
+WithinQuota a n = n ≤ a .pages * (a .words - 3 - 33)
+
 abbrev pub newWordsAll : List Request → ℕ
 newWordsAll [] = 0
 newWordsAll (r ∷ rs) = newWords r + newWordsAll rs
@@ -122,15 +126,16 @@ recovered a f = made (recoverList a f) f
 abbrev pub run : Area → Request → ℕ → List ℕ → Outcome
 run a r k f = outcome (planOf a r) k f
 
--- recoveries, any number of them cut, and at last one that is not
+-- recoveries, each with any power, and at last one that is not cut
 pub data Recovers (a : Area) : List ℕ → List ℕ → Type 0 where
   whole : {f : List ℕ} (k : ℕ) → wasCut (run a recover k f .answer) ≡ false → Recovers a f (run a recover k f .flash)
-  after-cut : {f g : List ℕ} (k : ℕ) → wasCut (run a recover k f .answer) ≡ true → Recovers a (run a recover k f .flash) g → Recovers a f g
+  then-again : {f g : List ℕ} (k : ℕ) → Recovers a (run a recover k f .flash) g → Recovers a f g
 
--- a request cut any number of times, each time recovered before it is asked again
+-- a request tried any number of times, each with any power, and recovered each time before it is asked again: a cut may come before any
+-- of its stores, or behind the last
 pub data Tried (a : Area) (r : Request) : List ℕ → List ℕ → Type 0 where
   untried : {f : List ℕ} → Tried a r f f
-  cut-short : {f g h : List ℕ} (k : ℕ) → wasCut (run a r k f .answer) ≡ true → Recovers a (run a r k f .flash) g → Tried a r g h → Tried a r f h
+  and-tried : {f g h : List ℕ} (k : ℕ) → Recovers a (run a r k f .flash) g → Tried a r g h → Tried a r f h
 
 -- a request carried through: so tried, and then not cut
 pub data Carried (a : Area) (r : Request) : List ℕ → Answer → List ℕ → Type 0 where
@@ -156,17 +161,17 @@ abbrev pub AllDiffer : List Request → Type 0
 AllDiffer [] = Unit {0}
 AllDiffer (r ∷ rs) = Others (handleIn r) rs × AllDiffer rs
 
--- DONE; or NOTFOUND, for a delete of what the map m has not
-abbrev pub Fine : Map → Request → Answer → Type 0
-Fine m r (Answer.Done s) = Unit {0}
-Fine m r (Answer.Cut s) = ⊥
-Fine m r (Answer.Refused n) = (n ≡ NotFound) × (r ≡ delete (handleIn r)) × (m (handleIn r) ≡ none)
+-- DONE; or NOTFOUND, for a delete
+abbrev pub Fine : Request → Answer → Type 0
+Fine r (Answer.Done s) = Unit {0}
+Fine r (Answer.Cut s) = ⊥
+Fine r (Answer.Refused n) = (n ≡ NotFound) × (r ≡ delete (handleIn r))
 
-abbrev pub FineAll : Map → List Request → List Answer → Type 0
-FineAll m [] [] = Unit {0}
-FineAll m [] (x ∷ xs) = ⊥
-FineAll m (r ∷ rs) [] = ⊥
-FineAll m (r ∷ rs) (x ∷ xs) = Fine m r x × FineAll m rs xs
+abbrev pub FineAll : List Request → List Answer → Type 0
+FineAll [] [] = Unit {0}
+FineAll [] (x ∷ xs) = ⊥
+FineAll (r ∷ rs) [] = ⊥
+FineAll (r ∷ rs) (x ∷ xs) = Fine r x × FineAll rs xs
 
 -- ---- what stands in the run
 -- the entry of the handle h with the data d stands at the place p of the run: its header there, its data behind it
