@@ -14,9 +14,9 @@ use Rattle.rules.specs.Words.{meta0, meta1, seal}
 use Rattle.rules.specs.Walk.{items, sealed}
 use Rattle.rules.specs.Areas.{R, base, page, kind, entriesFrom, entries, ready}
 use Rattle.rules.specs.Lists.{eraseR, formatPage, formatList}
-use Rattle.demands.specs.Terms.{Fair, fair-end}
+use Rattle.demands.specs.Terms.{Fair, fair-end, blanks, image, no-item}
 use Rattle.demands.specs.Stages.{fair-append}
-use Rattle.demands.specs.Pages.{blanks, image, no-item, at-seal, items-image, kind-image}
+use Rattle.demands.specs.Pages.{at-seal, items-image, kind-image}
 use Rattle.demands.specs.Runs.{shape-of, Usable, Right, right-at, page-in, Turns, turns-as, turns-then, turns-fill, turns-wipe}
 use Rattle.demands.specs.Mending.{given-made, Settled, settled-ready}
 

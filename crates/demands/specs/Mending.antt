@@ -20,9 +20,9 @@ use Rattle.rules.specs.Areas.{R, base, page, kind, every, Recovery, free, unfin
 use Rattle.rules.specs.Refusals.{unready}
 use Rattle.rules.specs.Lists.{bare, lastOf, bareIfLive, mend, supersede, dropDoubles}
 use Rattle.rules.specs.Laws.{and-left, and-right}
-use Rattle.demands.specs.Terms.{Fair, Map, lastLive}
+use Rattle.demands.specs.Terms.{Fair, Map, lastLive, blanks, image, Good, Goods, no-item, good-item}
 use Rattle.demands.specs.Stages.{after, Peels, then-peels, each-peels, each-ends, each-rests, each-one}
-use Rattle.demands.specs.Pages.{blanks, item, image, Good, Goods, no-item, good-item, goods-append, goods-left, goods-right, goods-head, goods-items, bare-header, header-dead, at-seal, at-blank, blank-all, all-blank, items-image, kind-image, stop-image, sealed-shape, torn-shape, is-sealed, codes-append, front, length-front, image-front, image-at}
+use Rattle.demands.specs.Pages.{item, goods-append, goods-left, goods-right, goods-head, goods-items, bare-header, header-dead, at-seal, at-blank, blank-all, all-blank, items-image, kind-image, stop-image, sealed-shape, torn-shape, is-sealed, codes-append, front, length-front, image-front, image-at}
 use Rattle.demands.specs.Runs.{shape-of, Usable, same-or-not, right-wrong, page-in, length-page, Only, Turns, turns-as, turns-then, turns-put, every-true, true-every}
 use Rattle.demands.specs.Entries.{zeroed, look, none-supersede, supersede-first, last-stays}
 use Rattle.demands.specs.Layout.{entryAt, placed-append, located}

@@ -5,7 +5,7 @@ use mathlib.Core.List.{List, [], _∷_, _++_, append-assoc, append-nil}
 use mathlib.Core.Bool.{Bool, true, false, cond, false≢true}
 use Prim.Native.Nat.{ℕ, suc, zero, _+_, _-_, _*_, _^_, _≤_, _<_, zero-le, suc-le-suc}
 use native.Mathlib.Omega.{arith}
-use lib.ListN.{length, getD, take, drop, replicate, length-append, length-take, take-append-drop}
+use lib.ListN.{length, getD, take, drop, length-append, length-take, take-append-drop}
 use lib.Seq.{take-at}
 use lib.Bits.{bitAnd, and-block, and-self, and-zero-r}
 use lib.Dec.{leb, ltb, eqb}
@@ -14,26 +14,12 @@ use Rattle.flash.specs.Stores.{blank, Words, more}
 use Rattle.rules.specs.Words.{longest, meta0, meta1, header, handleOf, lengthOf, special, seal}
 use Rattle.rules.specs.Walk.{Item, entryLength, codes, begins, Walked, walkIn, items, rest, stop, allBlank, Kind, sealed, torn, neither, endKind, metaRight, kindOf, isSealed}
 use Rattle.rules.specs.Laws.{and-left, and-right}
-
-abbrev pub blanks : ℕ → List ℕ
-blanks n = replicate n blank
+use Rattle.demands.specs.Terms.{blanks, Good, Goods, no-item, good-item, image}
 
 abbrev pub item : ℕ → List ℕ → Item
 item h d = record { handle = h; words = d }
 
--- the page with the index i of n that has the entries es, and behind them the words t
-unfoldable pub image : ℕ → ℕ → List Item → List ℕ → List ℕ
-image n i es t = meta0 ∷ (meta1 n i ∷ (codes es ++ t))
-
--- ---- an entry that the walk takes
-pub record Good (e : Item) : Type 0 where
-  pub small : e .handle < special
-  pub short : length (e .words) ≤ 32
-
-pub data Goods : List Item → Type 0 where
-  no-item : Goods []
-  good-item : {e : Item} {es : List Item} → Good e → Goods es → Goods (e ∷ es)
-
+-- ---- entries that the layout allows
 pub goods-append : {es fs : List Item} → Goods es → Goods fs → Goods (es ++ fs)
 goods-append no-item q = q
 goods-append (good-item g gs) q = good-item g (goods-append gs q)

@@ -24,9 +24,8 @@ use Rattle.rules.specs.Areas.{R, base, page, every}
 use Rattle.rules.specs.Refusals.{isListed, wrongGeometry}
 use Rattle.rules.specs.Lists.{erase}
 use Rattle.rules.specs.Laws.{and-left, and-right, nor-left, nor-right, size-words}
-use Rattle.demands.specs.Terms.{Given, Fair, fair-end, fair-put, fair-wipe}
+use Rattle.demands.specs.Terms.{Given, Fair, fair-end, fair-put, fair-wipe, blanks}
 use Rattle.demands.specs.Stages.{made-append, fair-append}
-use Rattle.demands.specs.Pages.{blanks}
 
 pub same-or-not : (i j : ℕ) → (i ≡ j) ⊎ (i ≢ j)
 same-or-not zero zero = inl refl

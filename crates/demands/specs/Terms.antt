@@ -1,20 +1,20 @@
 -- The few words in which the demands are stated. Definitions alone. Assumes nothing.
 use mathlib.Core.Path.{_≡_}
-use mathlib.Core.List.{List, [], _∷_}
+use mathlib.Core.List.{List, [], _∷_, _++_}
 use mathlib.Core.Bool.{Bool, true, false, cond}
 use mathlib.Core.Option.{Option, some, none}
 use mathlib.Core.Logic.{_≢_, _⊎_}
-use Prim.Native.Nat.{ℕ, suc, _+_, _-_, _*_, _≤_, _<_}
-use lib.ListN.{length, getD, take, drop}
+use Prim.Native.Nat.{ℕ, suc, zero, _+_, _-_, _*_, _≤_, _<_}
+use lib.ListN.{length, getD, take, drop, replicate}
 use lib.Bits.{bitAnd}
 use lib.Dec.{eqb}
-use Rattle.flash.specs.Stores.{Words, Store, put, stored, apply, made}
+use Rattle.flash.specs.Stores.{blank, Words, Store, put, stored, apply, made}
 use Rattle.rules.specs.declared.Area.{Area}
 use Rattle.rules.specs.declared.Answer.{Answer}
 use Rattle.rules.specs.declared.Refusal.the-variants.{NotFound}
-use Rattle.rules.specs.Words.{header}
-use Rattle.rules.specs.Walk.{entryLength}
-use Rattle.rules.specs.Areas.{R, base, Entry, pageEntries, entries, anyOf, liveOf, find, mapOf, liveWords, ready}
+use Rattle.rules.specs.Words.{meta0, meta1, header, special}
+use Rattle.rules.specs.Walk.{Item, entryLength, codes, items, Kind, sealed, torn, neither}
+use Rattle.rules.specs.Areas.{R, base, page, kind, recovery, names, Entry, placed, pageEntries, entries, anyOf, liveOf, find, mapOf, liveWords, ready}
 use Rattle.rules.specs.Refusals.{isNone, holds, Outcome, outcome}
 use Rattle.rules.specs.Lists.{erase, roomPage, compactPage, recoverList, Request, format, recover, write, delete, planOf}
 
@@ -174,6 +174,27 @@ FineAll (r ∷ rs) [] = ⊥
 FineAll (r ∷ rs) (x ∷ xs) = Fine r x × FineAll rs xs
 
 -- ---- what stands in the run
+abbrev pub blanks : ℕ → List ℕ
+blanks n = replicate n blank
+
+-- an entry that the layout allows
+pub record Good (e : Item) : Type 0 where
+  pub small : e .handle < special
+  pub short : length (e .words) ≤ 32
+
+pub data Goods : List Item → Type 0 where
+  no-item : Goods []
+  good-item : {e : Item} {es : List Item} → Good e → Goods es → Goods (e ∷ es)
+
+-- the page with the index i of n that has the entries es, and behind them the words t
+unfoldable pub image : ℕ → ℕ → List Item → List ℕ → List ℕ
+image n i es t = meta0 ∷ (meta1 n i ∷ (codes es ++ t))
+
+-- the entries es i, es (i + 1), .. of n pages, each at its place
+abbrev pub laid : Area → (ℕ → List Item) → ℕ → ℕ → List Entry
+laid a es zero i = []
+laid a es (suc n) i = placed (base a i + 2) (es i) ++ laid a es n (suc i)
+
 -- the entry of the handle h with the data d stands at the place p of the run: its header there, its data behind it
 pub record StandsAt (f : List ℕ) (p h : ℕ) (d : List ℕ) : Type 0 where
   pub head : getD f p 0 ≡ header h (entryLength d)
@@ -184,3 +205,22 @@ pub record StandsAt (f : List ℕ) (p h : ℕ) (d : List ℕ) : Type 0 where
 abbrev pub lastLive : ℕ → List Entry → Option Entry
 lastLive h [] = none
 lastLive h (e ∷ es) = cond (anyOf (liveOf h) es) (lastLive h es) (cond (liveOf h e) (some e) none)
+
+-- ---- what a recovery is to keep
+abbrev pub butLast : List Item → List Item
+butLast [] = []
+butLast (e ∷ []) = []
+butLast (e ∷ (d ∷ es)) = e ∷ butLast (d ∷ es)
+
+-- of a page's entries: all but the last of a torn one
+abbrev pub keptOf : Kind → List Item → List Item
+keptOf sealed es = es
+keptOf torn es = butLast es
+keptOf neither es = es
+
+-- of page i: what R holds, if R is committed and names it
+abbrev pub keptItems : Area → List ℕ → ℕ → List Item
+keptItems a f i = cond (names (recovery a f) i) (items (page a f (R a))) (keptOf (kind a f i) (items (page a f i)))
+
+unfoldable pub kept : Area → List ℕ → List Entry
+kept a f = laid a (keptItems a f) (a .pages) 0
