@@ -19,22 +19,23 @@ use Rattle.rules.specs.declared.Refusal.the-variants.{NotFound}
 use Rattle.rules.specs.declared.Answer.{Answer}
 use Rattle.rules.specs.declared.Reading.{Reading}
 use Rattle.rules.specs.declared.Yielded.{Yielded}
-use Rattle.rules.specs.Words.{longest, lastSeal, isLive}
-use Rattle.rules.specs.Walk.{stop, sealed}
-use Rattle.rules.specs.Areas.{page, kind, committed, recovery, entries, twice, dataOf, mapOf, liveWords, damaged, ready}
-use Rattle.rules.specs.Refusals.{badHandle, formatChecks, recoverChecks, writeChecks, findChecks, Plan, refuse, list, outcomeOf}
+use Rattle.rules.specs.Words.{longest, lastSeal, isLive, seal}
+use Rattle.rules.specs.Walk.{Item, items, stop, sealed}
+use Rattle.rules.specs.Areas.{R, page, kind, committed, recovery, entries, twice, dataOf, mapOf, liveWords, damaged, ready}
+use Rattle.rules.specs.Refusals.{formatChecks, recoverChecks, writeChecks, findChecks, Plan, refuse, list, outcomeOf}
 use Rattle.rules.specs.Lists.{formatList, deleteList, compact, roomPage, compactPage, writeList, recoverList, Request, format, recover, write, delete, planOf}
 use Rattle.rules.specs.Search.{readOf, badPlace, searchOf}
-use Rattle.demands.specs.Terms.{Given, Fair, WriteStores, Typed, Change, Proper, handleIn, newWords, Map, changed, changedAll, WithinQuota, newWordsAll, Holds, wasCut, run, recovered, Recovers, Tried, CarriedAll, ProperAll, AllDiffer, FineAll, StandsAt, lastLive}
+use Rattle.demands.specs.Terms.{Given, Fair, WriteStores, Typed, Change, Proper, handleIn, newWords, Map, changed, changedAll, WithinQuota, newWordsAll, Holds, wasCut, run, recovered, Recovers, Tried, CarriedAll, ProperAll, AllDiffer, FineAll, blanks, Goods, image, laid, StandsAt, lastLive, kept}
+use Rattle.demands.specs.Pages.{goods-items}
 use Rattle.demands.specs.Runs.{Usable, usable, given-of, shape-of}
 use Rattle.demands.specs.Entries.{once-last}
-use Rattle.demands.specs.Mending.{given-first, Stands, ready-stands, ready-sound}
-use Rattle.demands.specs.Finishing.{Undamaged, recover-resumes, recover-fair, recover-ready, ready-rests, recovered-last}
+use Rattle.demands.specs.Mending.{given-first, settled-ready, Stands, stands-settled, ready-stands, ready-sound, settled-page, laid-settled}
+use Rattle.demands.specs.Finishing.{Undamaged, recover-resumes, recover-fair, recover-ready, ready-rests, recovered-keeps, plain-kept}
 use Rattle.demands.specs.Format.{format-fair, format-settled, format-ready, format-empty, format-length}
 use Rattle.demands.specs.Room.{compact-page, compact-exists}
 use Rattle.demands.specs.Compacting.{packed-stands, packed-room}
 use Rattle.demands.specs.Reading.{read-held, read-absent, held-read, search-yields, search-skips-none, search-read}
-use Rattle.demands.specs.Requests.{Changes, listed, delete-list, write-counts, write-most, changes, change-ready, run-safe, recover-planned, recovers-ends, proper-of, Left, before, after}
+use Rattle.demands.specs.Requests.{Changes, legal-handle, delete-absent, listed, delete-list, write-counts, write-most, changes, change-ready, run-safe, recover-planned, recovers-ends, proper-of, Left, before, after}
 use Rattle.demands.specs.Orders.{tried, enough, carried-all, reordered}
 
 module _ {a : Area} {f : List ℕ} (given : Given a f) where
@@ -102,27 +103,32 @@ module _ {a : Area} {f : List ℕ} (given : Given a f) where
 
   -- ---- 3. Within the quota there is room: where no page has it a page to compact exists, and compacted that very page has it, with the map as it was.
   pub room : ready a f ≡ true → (l : ℕ) → l ≤ longest → WithinQuota a (liveWords (entries a f) + l) → roomPage a f l ≡ none
-      → (i : ℕ) × (compactPage a f l ≡ some i) × (stop (page a (made (compact a i f) f) i) + l ≤ lastSeal (a .words))
+      → (i : ℕ) × (i < a .pages) × (compactPage a f l ≡ some i) × (stop (page a (made (compact a i f) f) i) + l ≤ lastSeal (a .words))
       × Holds a (made (compact a i f) f) (mapOf a f)
   room r l h q e = go (compactPage a f l) refl
     where
-      go : (o : Option ℕ) → compactPage a f l ≡ o → (i : ℕ) × (o ≡ some i) × (stop (page a (made (compact a i f) f) i) + l ≤ lastSeal (a .words))
+      go : (o : Option ℕ) → compactPage a f l ≡ o → (i : ℕ) × (i < a .pages) × (o ≡ some i) × (stop (page a (made (compact a i f) f) i) + l ≤ lastSeal (a .words))
           × Holds a (made (compact a i f) f) (mapOf a f)
       go none c = absurd (compact-exists a f l (shape-of fit) h q c)
       go (some i) c =
           let p = compact-page a f l i c in
-          (i, refl, packed-room (stands r) i (p .0) l (p .1), holds (packed-stands (stands r) i (p .0)))
+          (i, p .0, refl, packed-room (stands r) i (p .0) l (p .1), holds (packed-stands (stands r) i (p .0)))
 
   -- ---- 4. What is written reads back, and nothing else changes.
   pub whole-change : (r : Request) → Change r → (ss : List Store) → planOf a r f ≡ list ss → Holds a (made ss f) (changed r (mapOf a f))
   whole-change r c ss e = holds (changed-by r c ss e .stands)
 
+  pub live-words : (r : Request) → Change r → (ss : List Store) → planOf a r f ≡ list ss → liveWords (entries a (made ss f)) ≤ liveWords (entries a f) + newWords r
+  live-words r c ss e = changed-by r c ss e .stands .live
+
+  pub deletes-held : ready a f ≡ true → (h : ℕ) → planOf a (delete h) f ≡ refuse NotFound → mapOf a f h ≡ none
+  deletes-held r h e = delete-absent (stands r) h e
+
   pub reads-back : (h : ℕ) (d : List ℕ) → Change (write h d) → (ss : List Store) → planOf a (write h d) f ≡ list ss
       → (p : ℕ) × (readOf a h (made ss f) ≡ Reading.At p (length d)) × StandsAt (made ss f) p h d
   reads-back h d c ss e =
       let t = changed-by (write h d) c ss e .stands in
-      let b = listed (writeChecks a f h d) (writeList a h d f) ss e .0 .1 .1 .1 .0 in
-      read-held h d (t .given) (t .ready) b (t .map h ∙ rw (eq-eqb h h refl))
+      read-held h d (t .given) (t .ready) (t .map h ∙ rw (eq-eqb h h refl))
 
   pub reads-none : (h : ℕ) (ss : List Store) → planOf a (delete h) f ≡ list ss → readOf a h (made ss f) ≡ Reading.Refused NotFound
   reads-none h ss e =
@@ -134,19 +140,30 @@ module _ {a : Area} {f : List ℕ} (given : Given a f) where
   unfolding mapOf
   formatted ss e = rw (← listed (formatChecks a f) (formatList a f) ss e .1) (record { given = given-of (format-settled fit .given); ready = format-ready fit; map = λ u. rw (format-empty fit) })
 
-  -- What a ready area's layout holds is what the map, reads and searches give.
-  pub map-read : ready a f ≡ true → (h : ℕ) → badHandle h ≡ false → (d : List ℕ) → mapOf a f h ≡ some d
-      → (p : ℕ) × (readOf a h f ≡ Reading.At p (length d)) × StandsAt f p h d
-  map-read r h b d e = read-held h d fit r b e
+  -- What a ready area's layout holds is what the map, reads and searches give. Its pages are as the layout writes them; and pages so written,
+  -- with R blank and no handle live twice, are a ready area that holds just what was written.
+  pub layout-of : ready a f ≡ true → (i : ℕ) → i < a .pages
+      → (m : ℕ) × Goods (items (page a f i)) × (page a f i ≡ image (a .pages) i (items (page a f i)) (seal ∷ blanks m))
+  layout-of r i h = let p = settled-page (stands-settled (stands r) .0) i h in (p .0, goods-items (page a f i), p .1)
 
-  pub map-unread : ready a f ≡ true → (h : ℕ) → badHandle h ≡ false → mapOf a f h ≡ none → readOf a h f ≡ Reading.Refused NotFound
-  map-unread r h b e = read-absent h fit r b e
+  pub of-layout : (es : ℕ → List Item) (m : ℕ → ℕ) → ((i : ℕ) → i < a .pages → Goods (es i))
+      → ((i : ℕ) → i < a .pages → page a f i ≡ image (a .pages) i (es i) (seal ∷ blanks (m i))) → page a f (R a) ≡ blanks (a .words)
+      → twice (laid a es (a .pages) 0) ≡ false → (ready a f ≡ true) × (entries a f ≡ laid a es (a .pages) 0)
+  of-layout es m gs is sp t = let w = laid-settled fit es m gs is sp in (settled-ready (w .0) (rw (w .1) t), w .1)
+
+  pub map-read : ready a f ≡ true → (h : ℕ) (d : List ℕ) → mapOf a f h ≡ some d
+      → (p : ℕ) × (readOf a h f ≡ Reading.At p (length d)) × StandsAt f p h d
+  map-read r h d e = read-held h d fit r e
+
+  pub map-unread : ready a f ≡ true → (h : ℕ) → 1 ≤ h → h ≤ 0x7EFF → mapOf a f h ≡ none → readOf a h f ≡ Reading.Refused NotFound
+  map-unread r h l k e = read-absent h fit r (legal-handle h l k) e
 
   pub read-map : (h p n : ℕ) → readOf a h f ≡ Reading.At p n → (mapOf a f h ≡ some (take n (drop (suc p) f))) × StandsAt f p h (take n (drop (suc p) f))
   read-map h p n e = held-read h p n fit e
 
   pub search-map : (mask pattern place q : ℕ) → searchOf a mask pattern place f ≡ Yielded.At q
       → (h : ℕ) × (d : List ℕ) × (place < q) × StandsAt f q h d × (mapOf a f h ≡ some d) × (isLive h ≡ true) × (eqb (bitAnd h mask) (bitAnd pattern mask) ≡ true)
+      × (badPlace a f q ≡ false)
   search-map mask pattern place q e = search-yields mask pattern place q fit e
 
   pub search-all : (mask pattern place h p n : ℕ) → badPlace a f place ≡ false → readOf a h f ≡ Reading.At p n
@@ -157,8 +174,8 @@ module _ {a : Area} {f : List ℕ} (given : Given a f) where
   search-one h p n e = search-read h p n fit e
 
   -- ---- 5. Recovery of an undamaged area ends ready; cut at any store and made anew it ends in the very same flash, word for word, however
-  -- often it is cut. With no R committed and nothing torn each handle keeps its last live entry; and with nothing double besides, the map is
-  -- unchanged.
+  -- often it is cut. Each handle keeps its last live entry: in the page that a committed R names those of R, in a torn page all but the last.
+  -- With no R committed and nothing torn or double the map is unchanged.
   pub ends-ready : damaged a f ≡ false → ready a (recovered a f) ≡ true
   ends-ready d = recover-ready a f (undamaged d)
 
@@ -169,15 +186,14 @@ module _ {a : Area} {f : List ℕ} (given : Given a f) where
   pub any-cuts : damaged a f ≡ false → (g : List ℕ) → Recovers a f g → g ≡ recovered a f
   any-cuts d g t = recovers-ends (undamaged d) t
 
-  pub keeps-last : damaged a f ≡ false → ((i : ℕ) → recovery a f ≢ committed i) → ((i : ℕ) → i < a .pages → kind a f i ≡ sealed)
-      → (u : ℕ) → mapOf a (recovered a f) u ≡ dataOf (lastLive u (entries a f))
+  pub keeps : damaged a f ≡ false → (u : ℕ) → mapOf a (recovered a f) u ≡ dataOf (lastLive u (kept a f))
   unfolding mapOf
-  keeps-last d c s u = ap dataOf (recovered-last f (undamaged d) c s u)
+  keeps d u = ap dataOf (recovered-keeps f (undamaged d) u)
 
   pub loses-nothing : damaged a f ≡ false → ((i : ℕ) → recovery a f ≢ committed i) → ((i : ℕ) → i < a .pages → kind a f i ≡ sealed)
       → twice (entries a f) ≡ false → (u : ℕ) → mapOf a (recovered a f) u ≡ mapOf a f u
   unfolding mapOf
-  loses-nothing d c s t u = keeps-last d c s u ∙ ap dataOf (sym (once-last u (entries a f) t))
+  loses-nothing d c s t u = keeps d u ∙ ap dataOf (ap (lastLive u) (plain-kept a f c s) ∙ sym (once-last u (entries a f) t))
 
   -- ---- 6. A write or a delete on a ready area with power for k stores, whatever k, leaves an undamaged area; then recoveries, each with any
   -- power and the last one not cut: the area is ready, and the map is the one from before or the one from after.

@@ -41,7 +41,7 @@ live-mine h e q k = rw q (eq-eqb (e .handle) h k)
 live-self : (h : ℕ) (e : Entry) → liveOf h e ≡ true → isLive (e .handle) ≡ true
 live-self h e q = let t = live-handle h e q in ap isLive (t .1) ∙ t .0
 
-dead-never : (h : ℕ) (e : Entry) → isLive (e .handle) ≡ false → liveOf h e ≡ false
+pub dead-never : (h : ℕ) (e : Entry) → isLive (e .handle) ≡ false → liveOf h e ≡ false
 dead-never h e q = untrue (liveOf h e) (λ p. true≢false (sym (live-self h e p) ∙ q))
 
 pub zeroed-dead : (h : ℕ) (e : Entry) → liveOf h (zeroed e) ≡ false
@@ -278,6 +278,10 @@ any-stays h x e y d = go (liveOf h e) refl
         any-skip (liveOf h) x (zeroed e) y (zeroed-dead h e) ∙ any-right (liveOf h) x y z ∙ sym (any-at (liveOf h) x e y p)
     go false p = any-skip (liveOf h) x (zeroed e) y (zeroed-dead h e) ∙ sym (any-skip (liveOf h) x e y p)
 
+last-none : (h : ℕ) (x : List Entry) → anyOf (liveOf h) x ≡ false → lastLive h x ≡ none
+last-none h [] q = refl
+last-none h (c ∷ x) q = rw (nor-right (liveOf h c) _ q, nor-left (liveOf h c) _ q)
+
 -- with no handle live twice it is the only one
 pub once-last : (h : ℕ) (x : List Entry) → twice x ≡ false → find h x ≡ lastLive h x
 once-last h [] t = refl
@@ -291,7 +295,16 @@ once-last h (c ∷ x) t = go (liveOf h c) refl (anyOf (liveOf h) x) refl (once-l
     go false p true q ih = rw (p, q) ih
     go false p false q ih = rw (p, q) (none-find h x q)
 
--- it stays when an earlier one goes
+-- it stays when an entry comes that is not the handle's
+pub last-skip : (h : ℕ) (x : List Entry) (e : Entry) (y : List Entry) → liveOf h e ≡ false → lastLive h (x ++ e ∷ y) ≡ lastLive h (x ++ y)
+last-skip h [] e y q = go (anyOf (liveOf h) y) refl
+  where
+    go : (b : Bool) → anyOf (liveOf h) y ≡ b → lastLive h (e ∷ y) ≡ lastLive h y
+    go true p = rw p
+    go false p = rw (p, q) (sym (last-none h y p))
+last-skip h (c ∷ x) e y q = rw (any-skip (liveOf h) x e y q, last-skip h x e y q)
+
+-- and when an earlier one goes
 pub last-stays : (h : ℕ) (x : List Entry) (e : Entry) (y : List Entry) → doubled e y ≡ true → lastLive h (x ++ zeroed e ∷ y) ≡ lastLive h (x ++ e ∷ y)
 last-stays h [] e y d = go (liveOf h e) refl (anyOf (liveOf h) y) refl
   where

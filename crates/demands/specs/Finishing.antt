@@ -19,13 +19,13 @@ use Rattle.rules.specs.Walk.{codes, items, stop, allBlank, sealed, kindOf, isSe
 use Rattle.rules.specs.Areas.{R, base, page, kind, every, Recovery, free, unfinished, committed, damage, recoveryOf, recovery, isDamage, names, entries, find, damaged, ready}
 use Rattle.rules.specs.Lists.{erase, copyTo, finish, dropDoubles, recoverList}
 use Rattle.rules.specs.Laws.{and-left, and-right, nor-left, nor-right}
-use Rattle.demands.specs.Terms.{Fair, fair-end, Map, recovered, lastLive, blanks, image}
-use Rattle.demands.specs.Stages.{made-append, after, after-then, fair-append, Resumes, then-resumes, peels-resumes, peels-ends, peels-fair}
+use Rattle.demands.specs.Terms.{Fair, fair-end, Map, recovered, lastLive, keptOf, keptItems, kept, blanks, image}
+use Rattle.demands.specs.Stages.{made-append, after, after-then, fair-append, Resumes, then-resumes, peels-resumes, peels-ends, peels-same, peels-fair}
 use Rattle.demands.specs.Pages.{length-image, goods-items, at-seal, stop-image, sealed-shape, is-sealed, words-image}
 use Rattle.demands.specs.Runs.{shape-of, Usable, same-or-not, over-blank, take-puts, length-puts, words-take, words-append, words-left, words-page, page-in, length-page, Only, only-self, only-as, only-trans, only-same, Turns, turns-none, turns-as, turns-then, turns-put, turns-fill, turns-wipe, every-true, true-every}
 use Rattle.demands.specs.Entries.{supersede-none, once-last}
-use Rattle.demands.specs.Layout.{entries-spare}
-use Rattle.demands.specs.Mending.{given-made, free-blank, Mended, Settled, Stands, stands-settled, mended-free, mended-sound, ready-settled, drop-keeps-last, mendAndDrop, later-peels, later-ready, settled-mends}
+use Rattle.demands.specs.Layout.{laid-same, from-laid}
+use Rattle.demands.specs.Mending.{given-made, free-blank, Mended, Settled, Stands, stands-settled, mended-free, mended-sound, ready-settled, own-items, settled-kept, mendAndDrop, later-peels, later-ready, settled-mends}
 
 -- ---- words copied to a blank page
 pub meta-low : (n i : ℕ) → i < n → n ≤ 255 → meta1 n i < blank
@@ -118,6 +118,10 @@ unfolding damaged
 undamaged-pages {a} {f} u i h =
     every-true (λ i. names (recovery a f) i || isSound (kind a f i)) (a .pages) 0
     (not-false (every (λ i. names (recovery a f) i || isSound (kind a f i)) (a .pages) 0) (nor-right (isDamage (recovery a f)) _ (u .sound))) i zero-le (omega arith)
+
+undamaged-r : (a : Area) (f : List ℕ) → Undamaged a f → isDamage (recovery a f) ≡ false
+unfolding damaged
+undamaged-r a f v = nor-left (isDamage (recovery a f)) _ (v .sound)
 
 pub undamaged-by : (a : Area) (f : List ℕ) → isDamage (recovery a f) ≡ false → ((i : ℕ) → i < a .pages → names (recovery a f) i || isSound (kind a f i) ≡ true) → damaged a f ≡ false
 unfolding damaged
@@ -388,23 +392,57 @@ recovered-by {a} g p e s =
     let r = sym (recover-mended a p (t .0)) ∙ ready-rests a p (s .given) (s .ready) in
     after-then (finish a) (mendAndDrop a) g ∙ ap (after (mendAndDrop a)) e ∙ ap (λ (u : List Store). made u p) r
 
--- where R is not committed and no page is torn, a recovery leaves each handle its last live entry
-pub recovered-last : {a : Area} (f : List ℕ) → Undamaged a f → ((i : ℕ) → recovery a f ≢ committed i) → ((i : ℕ) → i < a .pages → kind a f i ≡ sealed)
-    → (u : ℕ) → find u (entries a (recovered a f)) ≡ lastLive u (entries a f)
-unfolding damaged
-recovered-last {a} f v c s u =
-    let g = after (finish a) f in
-    let o = finished-only (recovery a f) refl in
-    let m = finished a f v .ends in
-    let w : Settled a (after (finish a) f) = record { given = m .given; spare = m .spare; sound = m .sound; done = λ i h l. rw (o .there i (λ q. omega arith)) (s i h) } in
-    let e : recovered a f ≡ made (dropDoubles a g) g = after-then (finish a) (mendAndDrop a) f ∙ ap (λ (x : List Store). made x g) (sym (recover-mended a g m) ∙ recover-settled a g w) in
-    let t = ready-settled (given-made (recoverList a f) (v .given)) (recover-ready a f v) .1 in
-    once-last u (entries a (recovered a f)) t ∙ ap (λ (x : List ℕ). lastLive u (entries a x)) e ∙ drop-keeps-last u (dropDoubles a g) g w refl ∙ ap (lastLive u) (entries-spare o)
+-- ---- what it keeps
+-- step (a) leaves what is to be kept
+finish-kept : {a : Area} (f : List ℕ) → Undamaged a f → kept a (after (finish a) f) ≡ kept a f
+unfolding kept
+finish-kept {a} f v = laid-same a (keptItems a (after (finish a) f)) (keptItems a f) (a .pages) 0 (λ i lo hi. go (recovery a f) refl i (omega arith))
   where
-    finished-only : (r : Recovery) → recovery a f ≡ r → Only a f (after (finish a) f) (R a) (page a (after (finish a) f) (R a))
-    finished-only free e = rw e (only-self a f (R a))
-    finished-only unfinished e =
+    own : (i : ℕ) → keptItems a (after (finish a) f) i ≡ keptOf (kind a (after (finish a) f) i) (items (page a (after (finish a) f) i))
+    own i = own-items (finished a f v .ends) i
+
+    go : (r : Recovery) → recovery a f ≡ r → (i : ℕ) → i < a .pages → keptItems a (after (finish a) f) i ≡ keptItems a f i
+    go free e i h = let z : after (finish a) f ≡ f = rw e in ap (λ (g : List ℕ). keptItems a g i) z
+    go unfinished e i h =
+        let l : finish a f ≡ erase a (R a) ∷ [] = rw e in
         let o = turns-wipe a (R a) (page a f (R a)) (le-refl (R a)) .on f (fits a f v (a .pages) (omega arith)) refl .1 in
-        rw e (only-as o (sym (o .here)))
-    finished-only (committed i) e = absurd (c i e)
-    finished-only damage e = absurd (true≢false (sym (ap isDamage e) ∙ nor-left (isDamage (recovery a f)) _ (v .sound)))
+        let p : page a (after (finish a) f) i ≡ page a f i = rw l (o .there i (λ q. omega arith)) in
+        own i ∙ rw (p, e)
+    go (committed j) e i h = ⊎-elim named (λ d. other d) (same-or-not j i)
+      where
+        w : Restored a f j (after (finish a) f)
+        w = restored a f v j e
+
+        named : j ≡ i → keptItems a (after (finish a) f) i ≡ keptItems a f i
+        named q =
+            let p : page a (after (finish a) f) i ≡ page a f (R a) = subst (λ (u : ℕ). page a (after (finish a) f) u ≡ page a f (R a)) q (w .here) in
+            let k : kindOf (a .pages) i (page a f (R a)) ≡ sealed = subst (λ (u : ℕ). kindOf (a .pages) u (page a f (R a)) ≡ sealed) q (committed-r (a .pages) j (page a f (R a)) e .1) in
+            own i ∙ rw (p, k, e, eq-eqb i j (sym q))
+
+        other : j ≢ i → keptItems a (after (finish a) f) i ≡ keptItems a f i
+        other d = own i ∙ rw (w .there i d (λ q. omega arith), e, ne-eqb i j (λ q. d (sym q)))
+    go damage e i h = absurd (true≢false (sym (ap isDamage e) ∙ undamaged-r a f v))
+
+-- the whole recovery leaves each handle the last live entry of what is to be kept
+pub recovered-keeps : {a : Area} (f : List ℕ) → Undamaged a f → (u : ℕ) → find u (entries a (recovered a f)) ≡ lastLive u (kept a f)
+recovered-keeps {a} f v u =
+    let g = after (finish a) f in
+    let s = ready-settled (given-made (recoverList a f) (v .given)) (recover-ready a f v) in
+    let k = peels-same (later-peels a) (λ f u. refl) (λ f g h p q u. q u ∙ p u) g (finished a f v .ends) u in
+    once-last u (entries a (recovered a f)) (s .1)
+    ∙ ap (lastLive u) (sym (settled-kept (s .0)))
+    ∙ ap (λ (x : List ℕ). lastLive u (kept a x)) (after-then (finish a) (mendAndDrop a) f)
+    ∙ k
+    ∙ ap (lastLive u) (finish-kept f v)
+
+-- with no R committed and no page torn, all entries are to be kept
+pub plain-kept : (a : Area) (f : List ℕ) → ((i : ℕ) → recovery a f ≢ committed i) → ((i : ℕ) → i < a .pages → kind a f i ≡ sealed) → kept a f ≡ entries a f
+unfolding kept entries
+plain-kept a f c s =
+    laid-same a (keptItems a f) (λ i. items (page a f i)) (a .pages) 0 (λ i lo hi. go (recovery a f) refl i (omega arith)) ∙ sym (from-laid a f (a .pages) 0)
+  where
+    go : (r : Recovery) → recovery a f ≡ r → (i : ℕ) → i < a .pages → keptItems a f i ≡ items (page a f i)
+    go free e i h = rw (e, s i h)
+    go unfinished e i h = rw (e, s i h)
+    go (committed j) e i h = absurd (c j e)
+    go damage e i h = rw (e, s i h)

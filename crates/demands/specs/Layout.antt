@@ -8,6 +8,7 @@ use lib.ListN.{length, length-append}
 use Rattle.rules.specs.declared.Area.{Area}
 use Rattle.rules.specs.Walk.{Item, entryLength, codes, items}
 use Rattle.rules.specs.Areas.{base, page, Entry, placed, pageEntries, entriesFrom, entries}
+use Rattle.demands.specs.Terms.{laid}
 use Rattle.demands.specs.Pages.{item}
 use Rattle.demands.specs.Runs.{Only}
 use Rattle.demands.specs.Entries.{split-append}
@@ -27,15 +28,30 @@ from-same a f g zero i h = refl
 from-same a f g (suc n) i h =
     rw (h i (omega arith) (omega arith), from-same a f g n (suc i) (λ j lo hi. h j (omega arith) (omega arith)))
 
-from-split : (a : Area) (f : List ℕ) (n k j i : ℕ) → i ≡ j + n → entriesFrom a f (n + suc k) j ≡ entriesFrom a f n j ++ (pageEntries a f i ++ entriesFrom a f k (suc i))
-from-split a f zero k j i e =
+-- ---- entries laid out, page by page
+pub laid-same : (a : Area) (es fs : ℕ → List Item) (n i : ℕ) → ((j : ℕ) → i ≤ j → j < i + n → es j ≡ fs j) → laid a es n i ≡ laid a fs n i
+laid-same a es fs zero i h = refl
+laid-same a es fs (suc n) i h = rw (h i (omega arith) (omega arith), laid-same a es fs n (suc i) (λ j lo hi. h j (omega arith) (omega arith)))
+
+laid-part : (a : Area) (es : ℕ → List Item) (n k j i : ℕ) → i ≡ j + n → laid a es (n + suc k) j ≡ laid a es n j ++ (placed (base a i + 2) (es i) ++ laid a es k (suc i))
+laid-part a es zero k j i e =
     let z : 0 + suc k ≡ suc k = omega arith in
     let y : i ≡ j = omega arith in
     rw (z, y)
-from-split a f (suc n) k j i e =
+laid-part a es (suc n) k j i e =
     let z : suc n + suc k ≡ suc (n + suc k) = omega arith in
-    rw (z, from-split a f n k (suc j) i (omega arith))
-    (sym (append-assoc (pageEntries a f j) (entriesFrom a f n (suc j)) (pageEntries a f i ++ entriesFrom a f k (suc i))))
+    rw (z, laid-part a es n k (suc j) i (omega arith)) (sym (append-assoc (placed (base a j + 2) (es j)) (laid a es n (suc j)) (placed (base a i + 2) (es i) ++ laid a es k (suc i))))
+
+pub laid-split : (a : Area) (es : ℕ → List Item) (i : ℕ) → i < a .pages
+    → laid a es (a .pages) 0 ≡ laid a es i 0 ++ (placed (base a i + 2) (es i) ++ laid a es (a .pages - suc i) (suc i))
+laid-split a es i h =
+    let z : a .pages ≡ i + suc (a .pages - suc i) = omega arith in
+    ap (λ (u : ℕ). laid a es u 0) z ∙ laid-part a es i (a .pages - suc i) 0 i (omega arith)
+
+-- the pages' own
+pub from-laid : (a : Area) (f : List ℕ) (n i : ℕ) → entriesFrom a f n i ≡ laid a (λ j. items (page a f j)) n i
+from-laid a f zero i = refl
+from-laid a f (suc n) i = ap (λ (u : List Entry). pageEntries a f i ++ u) (from-laid a f n (suc i))
 
 -- the entries of the pages before page i, and of those behind it
 abbrev pub before : Area → List ℕ → ℕ → List Entry
@@ -47,8 +63,7 @@ behind a f i = entriesFrom a f (a .pages - suc i) (suc i)
 pub entries-split : (a : Area) (f : List ℕ) (i : ℕ) → i < a .pages → entries a f ≡ before a f i ++ (pageEntries a f i ++ behind a f i)
 unfolding entries
 entries-split a f i h =
-    let z : a .pages ≡ i + suc (a .pages - suc i) = omega arith in
-    ap (λ (u : ℕ). entriesFrom a f u 0) z ∙ from-split a f i (a .pages - suc i) 0 i (omega arith)
+    from-laid a f (a .pages) 0 ∙ laid-split a (λ j. items (page a f j)) i h ∙ rw (← from-laid a f i 0, ← from-laid a f (a .pages - suc i) (suc i))
 
 pub entries-only : {a : Area} {f g : List ℕ} {i : ℕ} {x : List ℕ} → i < a .pages → Only a f g i x
     → entries a g ≡ before a f i ++ (placed (base a i + 2) (items x) ++ behind a f i)
@@ -56,11 +71,6 @@ entries-only {a} {f} {g} {i} {x} h o =
     let u = from-same a f g i 0 (λ j lo hi. o .there j (λ e. omega arith)) in
     let v = from-same a f g (a .pages - suc i) (suc i) (λ j lo hi. o .there j (λ e. omega arith)) in
     entries-split a g i h ∙ rw (u, v, o .here)
-
--- a change that is not in the pages
-pub entries-spare : {a : Area} {f g : List ℕ} {x : List ℕ} → Only a f g (a .pages) x → entries a g ≡ entries a f
-unfolding entries
-entries-spare {a} {f} {g} o = from-same a f g (a .pages) 0 (λ j lo hi. o .there j (λ e. omega arith))
 
 -- ---- the page that an entry stands in
 -- an entry among those of a page, and what they become when it alone changes

@@ -2,10 +2,10 @@
 -- the stores that are left. Assumes nothing.
 use mathlib.Core.Path.{_≡_, refl, ap, sym, _∙_, subst}
 use mathlib.Core.Logic.{⊎-elim, _≢_}
-use mathlib.Core.List.{List, [], _∷_, _++_, nil≢cons, head-eq-of-cons-eq, tail-eq-of-cons-eq}
+use mathlib.Core.List.{List, [], _∷_, _++_, append-assoc, nil≢cons, head-eq-of-cons-eq, tail-eq-of-cons-eq}
 use mathlib.Core.Bool.{Bool, true, false, cond, not, _&&_, and-false, false≢true}
 use mathlib.Core.Option.{Option, some}
-use Prim.Native.Nat.{ℕ, suc, _+_, _≤_, _<_, zero-le}
+use Prim.Native.Nat.{ℕ, suc, _+_, _-_, _≤_, _<_, zero-le}
 use native.Mathlib.Omega.{arith}
 use native.Mathlib.Nat.{eq-or-lt-of-le, le-of-suc-le-suc, le-refl}
 use lib.ListN.{length, getD, take, length-append}
@@ -20,12 +20,12 @@ use Rattle.rules.specs.Areas.{R, base, page, kind, every, Recovery, free, unfin
 use Rattle.rules.specs.Refusals.{unready}
 use Rattle.rules.specs.Lists.{bare, lastOf, bareIfLive, mend, supersede, dropDoubles}
 use Rattle.rules.specs.Laws.{and-left, and-right}
-use Rattle.demands.specs.Terms.{Fair, Map, lastLive, blanks, image, Good, Goods, no-item, good-item}
+use Rattle.demands.specs.Terms.{Fair, Map, lastLive, butLast, keptOf, keptItems, kept, laid, blanks, image, Good, Goods, no-item, good-item}
 use Rattle.demands.specs.Stages.{after, Peels, then-peels, each-peels, each-ends, each-rests, each-one}
 use Rattle.demands.specs.Pages.{item, goods-append, goods-left, goods-right, goods-head, goods-items, bare-header, header-dead, at-seal, at-blank, blank-all, all-blank, items-image, kind-image, stop-image, sealed-shape, torn-shape, is-sealed, codes-append, front, length-front, image-front, image-at}
 use Rattle.demands.specs.Runs.{shape-of, Usable, same-or-not, right-wrong, page-in, length-page, Only, Turns, turns-as, turns-then, turns-put, every-true, true-every}
-use Rattle.demands.specs.Entries.{zeroed, look, none-supersede, supersede-first, last-stays}
-use Rattle.demands.specs.Layout.{entryAt, placed-append, located}
+use Rattle.demands.specs.Entries.{zeroed, look, none-supersede, supersede-first, last-skip, last-stays, dead-never}
+use Rattle.demands.specs.Layout.{laid-same, laid-split, from-laid, entryAt, placed-append, located}
 
 pub given-made : {a : Area} {f : List ℕ} (ss : List Store) → Usable a f → Usable a (made ss f)
 given-made {a} {f} ss g = record { words = words-made ss (g .words); right = right-wrong a f (made ss f) (g .right) (length-made ss f) }
@@ -149,6 +149,58 @@ settled-page {a} {f} s i h =
     let l = length-page a f i (page-in r i (omega arith)) in
     sealed-shape (a .pages) i (page a f i) (omega arith) (s .done i h h)
 
+-- ---- what is kept
+-- g keeps what f is to keep: each handle the same last live entry
+abbrev pub Keeps : Area → List ℕ → List ℕ → Type 0
+Keeps a f g = (u : ℕ) → lastLive u (kept a g) ≡ lastLive u (kept a f)
+
+-- where R is blank, the pages' own
+pub own-items : {a : Area} {j : ℕ} {f : List ℕ} → Mended a j f → (i : ℕ) → keptItems a f i ≡ keptOf (kind a f i) (items (page a f i))
+own-items m i = rw (mended-free m)
+
+-- of a settled area, all entries
+pub settled-kept : {a : Area} {f : List ℕ} → Settled a f → kept a f ≡ entries a f
+unfolding kept entries
+settled-kept {a} {f} s =
+    laid-same a (keptItems a f) (λ i. items (page a f i)) (a .pages) 0 (λ i lo hi. own-items s i ∙ rw (s .done i (omega arith) (omega arith)))
+    ∙ sym (from-laid a f (a .pages) 0)
+
+-- one page turned to another: all the rest is kept
+module _ {a : Area} {j l : ℕ} {f g : List ℕ} {i : ℕ} {x : List ℕ} (m : Mended a j f) (n : Mended a l g) (h : i < a .pages) (o : Only a f g i x) where
+  others : (t : ℕ) → i ≢ t → keptItems a g t ≡ keptItems a f t
+  others t d = own-items n t ∙ rw (o .there t d) (sym (own-items m t))
+
+  abbrev up : List Entry
+  up = laid a (keptItems a f) i 0
+
+  abbrev down : List Entry
+  down = laid a (keptItems a f) (a .pages - suc i) (suc i)
+
+  kept-old : kept a f ≡ up ++ (placed (base a i + 2) (keptItems a f i) ++ down)
+  unfolding kept
+  kept-old = laid-split a (keptItems a f) i h
+
+  kept-new : kept a g ≡ up ++ (placed (base a i + 2) (keptItems a g i) ++ down)
+  unfolding kept
+  kept-new =
+      let u = laid-same a (keptItems a g) (keptItems a f) i 0 (λ t lo hi. others t (λ q. omega arith)) in
+      let v = laid-same a (keptItems a g) (keptItems a f) (a .pages - suc i) (suc i) (λ t lo hi. others t (λ q. omega arith)) in
+      laid-split a (keptItems a g) i h ∙ rw (u, v)
+
+  -- the same entries of the page
+  pub same-keeps : keptItems a g i ≡ keptItems a f i → Keeps a f g
+  same-keeps e u = let k : kept a g ≡ kept a f = kept-new ∙ ap (λ (es : List Item). up ++ (placed (base a i + 2) es ++ down)) e ∙ sym kept-old in ap (lastLive u) k
+
+  -- and an invalidated one more behind them
+  pub more-keeps : (es : List Item) (y : Item) → isLive (y .handle) ≡ false → keptItems a f i ≡ es → keptItems a g i ≡ es ++ (y ∷ []) → Keeps a f g
+  more-keeps es y q e c u =
+      let at = base a i + 2 in
+      let z = entryAt (base a i + 2 + length (codes es)) y in
+      let k : kept a g ≡ (up ++ placed at es) ++ z ∷ down =
+      kept-new ∙ rw (c, placed-append at es (y ∷ []), append-assoc (placed at es) (z ∷ []) down) (sym (append-assoc up (placed at es) (z ∷ down))) in
+      let l : kept a f ≡ (up ++ placed at es) ++ down = kept-old ∙ rw e (sym (append-assoc up (placed at es) down)) in
+      ap (lastLive u) k ∙ last-skip u (up ++ placed at es) z down (dead-never u z q) ∙ ap (lastLive u) (sym l)
+
 -- ---- one word of a page
 -- the header of an entry to its bare length
 pub turns-bare : (a : Area) (i : ℕ) (es : List Item) (x : Item) (fs : List Item) (t : List ℕ) (p : ℕ) → p ≡ base a i + (2 + length (codes es)) → length (x .words) ≤ 32
@@ -220,6 +272,16 @@ snoc-view (e ∷ es) = go es (snoc-view es)
     go l empty = snoc [] e
     go l (snoc fs x) = snoc (e ∷ fs) x
 
+-- of entries the last is invalidated, if there is one
+data DeadLast : List Item → Type 0 where
+  nothing : DeadLast []
+  dead-last : (es : List Item) (x : Item) → isLive (x .handle) ≡ false → DeadLast (es ++ (x ∷ []))
+
+but-last : (es : List Item) (x : Item) → butLast (es ++ (x ∷ [])) ≡ es
+but-last [] x = refl
+but-last (e ∷ []) x = refl
+but-last (e ∷ (d ∷ es)) x = ap (λ (u : List Item). e ∷ u) (but-last (d ∷ es) x)
+
 module _ (a : Area) (i : ℕ) (h : i < a .pages) where
   -- the stores that a torn page with the entries es takes
   abbrev toMend : List Item → List Store
@@ -238,19 +300,31 @@ module _ (a : Area) (i : ℕ) (h : i < a .pages) where
 
   -- what is wanted of the first store
   abbrev First : ℕ → List ℕ → Store → List Store → Type 0
-  First j f x xs = Fair a (x ∷ []) f × Mended a j (apply x f) × (mend a i (apply x f) ≡ xs)
+  First j f x xs = Fair a (x ∷ []) f × Mended a j (apply x f) × (mend a i (apply x f) ≡ xs) × Keeps a f (apply x f)
 
   module _ (j : ℕ) (below : j ≤ i) (f : List ℕ) (m : Mended a j f) where
     fits : base a (suc i) ≤ length f
     fits = page-in (shape-of (m .given)) i (omega arith)
 
-    -- the seal
-    seal-first : (es : List Item) (n : ℕ) → Goods es → page a f i ≡ image (a .pages) i es (blank ∷ blanks n) → First j f (put (base a i + (2 + length (codes es))) seal) []
-    seal-first es n gs e =
+    -- what the page keeps, torn and sealed
+    torn-keeps : (g : List ℕ) {l : ℕ} → Mended a l g → (es : List Item) (n : ℕ) → Goods es → page a g i ≡ image (a .pages) i es (blank ∷ blanks n) → keptItems a g i ≡ butLast es
+    torn-keeps g w es n gs e = own-items w i ∙ rw (e, kind-image at-blank (a .pages) i n es gs, items-image at-blank (a .pages) i n es gs)
+
+    sealed-keeps : (g : List ℕ) {l : ℕ} → Mended a l g → (es : List Item) (n : ℕ) → Goods es → page a g i ≡ image (a .pages) i es (seal ∷ blanks n) → keptItems a g i ≡ es
+    sealed-keeps g w es n gs e = own-items w i ∙ rw (e, kind-image at-seal (a .pages) i n es gs, items-image at-seal (a .pages) i n es gs)
+
+    -- the seal, behind entries of which the last is invalidated
+    seal-first : (es : List Item) (n : ℕ) → Goods es → DeadLast es → page a f i ≡ image (a .pages) i es (blank ∷ blanks n) → First j f (put (base a i + (2 + length (codes es))) seal) []
+    seal-first es n gs dl e =
         let s = put (base a i + (2 + length (codes es))) seal in
         let o = turns-seal a i es (blanks n) (base a i + (2 + length (codes es))) refl .on f fits e in
         let c = kind-image at-seal (a .pages) i n es gs in
-        (o .0, mended-only m (given-made (s ∷ []) (m .given)) h (o .1) (rw c) (λ l. c), mend-sealed (apply s f) (rw (o .1 .here) c))
+        let w : Mended a j (apply s f) = mended-only m (given-made (s ∷ []) (m .given)) h (o .1) (rw c) (λ l. c) in
+        (o .0, w, mend-sealed (apply s f) (rw (o .1 .here) c), keeps es dl (torn-keeps f m es n gs e) (sealed-keeps (apply s f) w es n gs (o .1 .here)) w (o .1))
+      where
+        keeps : {g x : List ℕ} (es : List Item) → DeadLast es → keptItems a f i ≡ butLast es → keptItems a g i ≡ es → Mended a j g → Only a f g i x → Keeps a f g
+        keeps es nothing p q w o = same-keeps m w h o (q ∙ sym p)
+        keeps es (dead-last fs y z) p q w o = more-keeps m w h o fs y z (p ∙ but-last fs y) q
 
     -- the last entry
     module _ (fs : List Item) (x : Item) (n : ℕ) (gs : Goods (fs ++ (x ∷ []))) (e : page a f i ≡ image (a .pages) i (fs ++ (x ∷ [])) (blank ∷ blanks n)) where
@@ -272,17 +346,21 @@ module _ (a : Area) (i : ℕ) (h : i < a .pages) where
       bare-first : First j f (bare last) (put (base a i + (2 + length (codes (fs ++ (x ∷ []))))) seal ∷ [])
       bare-first =
           let o = turns-bare a i fs x [] (blank ∷ blanks n) (base a i + 2 + length (codes fs)) (omega arith) short .on f fits e in
-          let c = kind-image at-blank (a .pages) i n zs gz in (
+          let c = kind-image at-blank (a .pages) i n zs gz in
+          let w : Mended a j (apply (bare last) f) = mended-only m (given-made (bare last ∷ []) (m .given)) h (o .1) (rw c) (λ l. absurd (omega arith)) in
+          let k = torn-keeps f m (fs ++ (x ∷ [])) n gs e ∙ but-last fs x in
+          let l = torn-keeps (apply (bare last) f) w zs n gz (o .1 .here) ∙ but-last fs (item 0 (x .words)) in (
             o .0,
-            mended-only m (given-made (bare last ∷ []) (m .given)) h (o .1) (rw c) (λ l. absurd (omega arith)),
+            w,
             mend-torn (apply (bare last) f) zs n gz (o .1 .here) ∙ rw (last-placed fs (item 0 (x .words)), same-long),
+            same-keeps m w h (o .1) (l ∙ sym k),
           )
 
     torn-first : (es : List Item) (n : ℕ) → Goods es → page a f i ≡ image (a .pages) i es (blank ∷ blanks n) → (x : Store) (xs : List Store) → toMend es ≡ x ∷ xs → First j f x xs
     torn-first es n gs e = go es (snoc-view es) gs e
       where
         go : (es : List Item) → Snoc es → Goods es → page a f i ≡ image (a .pages) i es (blank ∷ blanks n) → (x : Store) (xs : List Store) → toMend es ≡ x ∷ xs → First j f x xs
-        go es empty gs e x xs q = rw (← head-eq-of-cons-eq q, ← tail-eq-of-cons-eq q) (seal-first [] n gs e)
+        go es empty gs e x xs q = rw (← head-eq-of-cons-eq q, ← tail-eq-of-cons-eq q) (seal-first [] n gs nothing e)
         go es (snoc fs y) gs e x xs q =
             live (isLive (y .handle)) refl (sym (ap (λ (u : Option Entry). bareIfLive u ++ put (base a i + (2 + length (codes (fs ++ (y ∷ []))))) seal ∷ []) (last-placed fs y)) ∙ q)
           where
@@ -293,7 +371,7 @@ module _ (a : Area) (i : ℕ) (h : i < a .pages) where
                 rw (← head-eq-of-cons-eq r′, ← tail-eq-of-cons-eq r′) (bare-first fs y n gs e)
             live false c r =
                 let r′ : put (base a i + (2 + length (codes (fs ++ (y ∷ []))))) seal ∷ [] ≡ x ∷ xs = rw c at r in
-                rw (← head-eq-of-cons-eq r′, ← tail-eq-of-cons-eq r′) (seal-first (fs ++ (y ∷ [])) n gs e)
+                rw (← head-eq-of-cons-eq r′, ← tail-eq-of-cons-eq r′) (seal-first (fs ++ (y ∷ [])) n gs (dead-last fs y c) e)
 
     mend-first : (k : Kind) → kind a f i ≡ k → (x : Store) (xs : List Store) → mend a i f ≡ x ∷ xs → First j f x xs
     mend-first sealed e x xs q = absurd (nil≢cons (sym (mend-sealed f e) ∙ q))
@@ -314,7 +392,7 @@ module _ (a : Area) (i : ℕ) (h : i < a .pages) where
       let s = turns-seal a i (es ++ (item 0 (x .words) ∷ [])) (blanks n) (base a i + (2 + length (codes (es ++ (x ∷ []))))) (omega arith) in
       rw (mend-torn f (es ++ (x ∷ [])) n gs e, last-placed es x, v) (turns-then b s .on f l e .1)
 
-  mend-peels : Peels a (Mended a i) (mend a i)
+  mend-peels : Peels a (Keeps a) (Mended a i) (mend a i)
   mend-peels = record { first = λ f m x xs q. mend-first i (omega arith) f m (kind a f i) refl x xs q }
 
   snoc-some : (ss : List Store) (x : Store) → ss ++ (x ∷ []) ≡ [] → ⊥
@@ -334,27 +412,16 @@ module _ (a : Area) (i : ℕ) (h : i < a .pages) where
   mend-back f m = (record { given = m .given; spare = m .spare; sound = m .sound; done = λ l b c. m .done l b (omega arith) }, mend-sealed f (m .done i h (omega arith)))
 
 -- ---- step (c)
-drop-peels : (a : Area) → Peels a (Settled a) (dropDoubles a)
+drop-peels : (a : Area) → Peels a (Keeps a) (Settled a) (dropDoubles a)
 drop-peels a = record { first = go }
   where
-    go : (f : List ℕ) → Settled a f → (x : Store) (xs : List Store) → dropDoubles a f ≡ x ∷ xs → Fair a (x ∷ []) f × Settled a (apply x f) × (dropDoubles a (apply x f) ≡ xs)
+    go : (f : List ℕ) → Settled a f → (x : Store) (xs : List Store) → dropDoubles a f ≡ x ∷ xs → Fair a (x ∷ []) f × Settled a (apply x f) × (dropDoubles a (apply x f) ≡ xs) × Keeps a f (apply x f)
     go f s x xs q =
         let w = supersede-first (entries a f) x xs q in
         let v = invalidate (w .pre) (w .entry) (w .suf) s (w .is) in
-        rw (w .store) (v .fair, v .settled, ap supersede (v .entries) ∙ w .others)
-
--- it leaves each handle its last live entry
-pub drop-keeps-last : {a : Area} (u : ℕ) (ss : List Store) (f : List ℕ) → Settled a f → dropDoubles a f ≡ ss → lastLive u (entries a (made ss f)) ≡ lastLive u (entries a f)
-drop-keeps-last u [] f s e = refl
-drop-keeps-last {a} u (x ∷ xs) f s e =
-    let w = supersede-first (entries a f) x xs e in
-    let v = invalidate (w .pre) (w .entry) (w .suf) s (w .is) in
-    let n : dropDoubles a (apply (bare (w .entry)) f) ≡ xs = ap supersede (v .entries) ∙ w .others in
-    ap (λ (y : Store). lastLive u (entries a (made xs (apply y f)))) (w .store)
-    ∙ drop-keeps-last u xs (apply (bare (w .entry)) f) (v .settled) n
-    ∙ ap (lastLive u) (v .entries)
-    ∙ last-stays u (w .pre) (w .entry) (w .suf) (w .later)
-    ∙ ap (lastLive u) (sym (w .is))
+        let k : Keeps a f (apply (bare (w .entry)) f) =
+        λ u. ap (lastLive u) (settled-kept (v .settled) ∙ v .entries) ∙ last-stays u (w .pre) (w .entry) (w .suf) (w .later) ∙ ap (lastLive u) (sym (settled-kept s ∙ w .is)) in
+        rw (w .store) (v .fair, v .settled, ap supersede (v .entries) ∙ w .others, k)
 
 -- ---- both
 abbrev pub mendAll : Area → Step
@@ -364,7 +431,7 @@ module _ (a : Area) where
   abbrev pub mendAndDrop : Step
   mendAndDrop = mendAll a then dropDoubles a
 
-  pub later-peels : Peels a (Mended a 0) mendAndDrop
+  pub later-peels : Peels a (Keeps a) (Mended a 0) mendAndDrop
   later-peels =
       then-peels (each-peels (mend a) (Mended a) (a .pages) (mend-peels a) (λ i f h. mend-on a i h f) (λ i f h. mend-back a i h f) (a .pages) 0 (omega arith)) (drop-peels a)
       (each-ends (mend a) (Mended a) (a .pages) (mend-peels a) (λ i f h. mend-on a i h f) (λ i f h. mend-back a i h f) (a .pages) 0 (omega arith))
@@ -389,3 +456,14 @@ module _ (a : Area) where
 
   pub settled-mends : (f : List ℕ) → Settled a f → Mended a 0 f × (mendAll a f ≡ [])
   settled-mends f s = each-rests (mend a) (Mended a) (a .pages) (mend-peels a) (λ i f h. mend-on a i h f) (λ i f h. mend-back a i h f) (a .pages) 0 (omega arith) f s
+
+-- ---- pages as the layout writes them
+pub laid-settled : {a : Area} {f : List ℕ} → Usable a f → (es : ℕ → List Item) (m : ℕ → ℕ) → ((i : ℕ) → i < a .pages → Goods (es i))
+    → ((i : ℕ) → i < a .pages → page a f i ≡ image (a .pages) i (es i) (seal ∷ blanks (m i))) → page a f (R a) ≡ blanks (a .words)
+    → Settled a f × (entries a f ≡ laid a es (a .pages) 0)
+unfolding entries
+laid-settled {a} {f} g es m gs is sp =
+    let k : (i : ℕ) → i < a .pages → kind a f i ≡ sealed = λ i h. rw (is i h) (kind-image at-seal (a .pages) i (m i) (es i) (gs i h)) in (
+      record { given = g; spare = sp; sound = λ i h. rw (k i h); done = λ i h l. k i h },
+      from-laid a f (a .pages) 0 ∙ laid-same a (λ i. items (page a f i)) es (a .pages) 0 (λ i lo hi. rw (is i (omega arith)) (items-image at-seal (a .pages) i (m i) (es i) (gs i (omega arith)))),
+    )

@@ -2,7 +2,7 @@
 -- Assumes nothing.
 use mathlib.Core.Path.{_≡_, refl, ap, ap₂, sym, _∙_, subst}
 use mathlib.Core.List.{List, [], _∷_, _++_, append-assoc}
-use mathlib.Core.Bool.{Bool, true, false, _&&_, and-false, true≢false}
+use mathlib.Core.Bool.{Bool, true, false, not, _&&_, and-false, true≢false}
 use mathlib.Core.Option.{Option, some, none}
 use Prim.Native.Nat.{ℕ, suc, zero, _+_, _^_, _≤_, _<_}
 use native.Mathlib.Omega.{arith}
@@ -11,7 +11,7 @@ use lib.ListN.{length, getD, take, drop, length-append, take-append-drop}
 use lib.Seq.{length-take-le, take-at, getD-at, drop-append-add}
 use lib.Bits.{bitAnd, and-mask}
 use lib.Dec.{ltb, eqb}
-use borrow.Author.Tests.{ltb-true, lt-ltb, eqb-true, eq-eqb}
+use borrow.Author.Tests.{ltb-true, lt-ltb, lt-leb, eqb-true, eq-eqb, not-true}
 use Rattle.rules.specs.declared.Area.{Area}
 use Rattle.rules.specs.declared.Refusal.the-variants.{NotFound}
 use Rattle.rules.specs.declared.Reading.{Reading}
@@ -25,7 +25,7 @@ use Rattle.rules.specs.Laws.{and-left, and-right, passed-checked, checked-passe
 use Rattle.demands.specs.Terms.{StandsAt, blanks, image, Goods}
 use Rattle.demands.specs.Pages.{item, goods-right, goods-head, goods-items, length-image, front, length-front, image-at}
 use Rattle.demands.specs.Runs.{shape-of, Usable, base-suc, length-page, page-in}
-use Rattle.demands.specs.Entries.{first-some, find-some, once-apart, look-add}
+use Rattle.demands.specs.Entries.{any-at, first-some, find-some, once-apart, look-add}
 use Rattle.demands.specs.Layout.{Located, located}
 use Rattle.demands.specs.Mending.{Settled, ready-settled, ready-sound, ready-passed, passed-ready, settled-page}
 
@@ -177,12 +177,20 @@ read-finds {a} {f} h p n g q =
     let z : Reading.At (e .0 .place) (length (e .0 .words)) ≡ Reading.At p n = ap (λ (o : Option Entry). Reading.At (placeOf o) (dataLength o)) (sym (e .1)) ∙ c .1 in
     (e .0, e .1, cc, cc, passed-ready a f (k .0) (k .1 .0))
 
+-- a handle that is found is a legal one
+found-legal : (a : Area) (f : List ℕ) (h : ℕ) (e : Entry) → find h (entries a f) ≡ some e → badHandle h ≡ false
+found-legal a f h e q =
+    let r = find-some h (entries a f) e q in
+    let l : h < special = subst (λ (u : ℕ). u < special) (r .3) (small-handle a f (r .0) e (r .1) (r .2)) in
+    rw (not-true (eqb h 0) (r .4), lt-leb special h l)
+
 -- what the map holds is read where it stands, and what it does not hold is not found
-pub read-held : {a : Area} {f : List ℕ} (h : ℕ) (d : List ℕ) → Usable a f → ready a f ≡ true → badHandle h ≡ false → mapOf a f h ≡ some d
+pub read-held : {a : Area} {f : List ℕ} (h : ℕ) (d : List ℕ) → Usable a f → ready a f ≡ true → mapOf a f h ≡ some d
     → (p : ℕ) × (readOf a h f ≡ Reading.At p (length d)) × StandsAt f p h d
 unfolding mapOf
-read-held {a} {f} h d g r b m =
-    let t = data-some (find h (entries a f)) d m in (
+read-held {a} {f} h d g r m =
+    let t = data-some (find h (entries a f)) d m in
+    let b = found-legal a f h (t .0) (t .1) in (
       t .0 .place,
       passed-checked Reading.Refused (findChecks a f h) _ (g .right, (ready-sound a f g r, (ready-passed a f r, (b, (ap isNone (t .1), tt)))))
           ∙ ap (λ (u : Option Entry). Reading.At (placeOf u) (dataLength u)) (t .1)
@@ -218,6 +226,12 @@ live-map a f pre e suf q t l =
 abbrev wanted : ℕ → ℕ → ℕ → Entry → Bool
 wanted mask pattern place e = ltb place (e .place) && matches mask pattern e
 
+-- an entry's place is one to go on from
+entry-place : (a : Area) (f : List ℕ) (pre : List Entry) (e : Entry) (suf : List Entry) → entries a f ≡ pre ++ e ∷ suf → badPlace a f (e .place) ≡ false
+unfolding badPlace
+entry-place a f pre e suf q =
+    rw (q, any-at (λ c. eqb (c .place) (e .place)) pre e suf (eq-eqb (e .place) (e .place) refl)) (and-false (not (eqb (e .place) 0)))
+
 module _ {a : Area} {f : List ℕ} (mask pattern place : ℕ) where
   searched : (c : Entry) → Usable a f → ready a f ≡ true → badPlace a f place ≡ false → next a f mask pattern place ≡ some c
       → searchOf a mask pattern place f ≡ Yielded.At (c .place)
@@ -228,6 +242,7 @@ module _ {a : Area} {f : List ℕ} (mask pattern place : ℕ) where
   -- what it yields is a match behind the place, and the map's
   pub search-yields : (q : ℕ) → Usable a f → searchOf a mask pattern place f ≡ Yielded.At q
       → (h : ℕ) × (d : List ℕ) × (place < q) × StandsAt f q h d × (mapOf a f h ≡ some d) × (isLive h ≡ true) × (eqb (bitAnd h mask) (bitAnd pattern mask) ≡ true)
+      × (badPlace a f q ≡ false)
   unfolding next
   search-yields q g y =
       let c = checked-passed Yielded.Refused (searchChecks a f mask pattern place) _ (Yielded.At q) (λ m z. let y : _≡_ {A = ℕ} 0 1 = cc in omega arith) y in
@@ -248,6 +263,7 @@ module _ {a : Area} {f : List ℕ} (mask pattern place : ℕ) where
         live-map a f (r .0) e (r .1) (r .2) (s .1) l,
         l,
         and-right (isLive (e .handle)) _ m,
+        subst (λ (u : ℕ). badPlace a f u ≡ false) p (entry-place a f (r .0) e (r .1) (r .2)),
       )
 
   next-least : Settled a f → (pre : List Entry) (e : Entry) (suf : List Entry) → entries a f ≡ pre ++ e ∷ suf → wanted mask pattern place e ≡ true

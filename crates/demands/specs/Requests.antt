@@ -14,7 +14,7 @@ use Rattle.flash.specs.Stores.{Words, Store, apply, made, madeFirst, _then_}
 use Rattle.flash.specs.Laws.{le-or-lt, first-none, first-all, first-nil, first-then}
 use Rattle.rules.specs.declared.Area.{Area}
 use Rattle.rules.specs.declared.Refusal.{Refusal}
-use Rattle.rules.specs.declared.Refusal.the-variants.{NotFound}
+use Rattle.rules.specs.declared.Refusal.the-variants.{NotFound, BadHandle}
 use Rattle.rules.specs.Words.{special, isLive, lastSeal}
 use Rattle.rules.specs.Walk.{entryLength, stop}
 use Rattle.rules.specs.Areas.{page, Entry, pageEntries, entries, twice, find, dataOf, mapOf, liveWords, ready}
@@ -23,7 +23,7 @@ use Rattle.rules.specs.Lists.{bare, bareIf, deleteList, deletePlan, compact, ro
 use Rattle.rules.specs.Laws.{and-left, and-right, nor-left, nor-right, Passed, passed-checked, checked-passed}
 use Rattle.demands.specs.Terms.{Fair, fair-end, appendStores, WriteStores, held, appended, compacted, Change, Proper, handleIn, newWords, Map, changed, wasCut, run, recovered, Recovers, whole, then-again}
 use Rattle.demands.specs.Stages.{after-then, fair-append}
-use Rattle.demands.specs.Runs.{shape-of}
+use Rattle.demands.specs.Runs.{Usable, shape-of}
 use Rattle.demands.specs.Entries.{zeroed, twice-skip, once-drop, look-drop, live-skip, live-at, find-some, look}
 use Rattle.demands.specs.Mending.{Stands, stands-by, stands-settled, stands-look, ready-sound, ready-passed, passed-ready, invalidate}
 use Rattle.demands.specs.Finishing.{Undamaged, mended-undamaged, Safe, recover-resumes, stands-recovered}
@@ -51,7 +51,7 @@ safe-after : {a : Area} {m m′ : Map} {n n′ : ℕ} {f : List ℕ} → Stands 
 safe-after {a} {f = f} s = record { undamaged = stands-undamaged s; ends = inr (rw (stands-recovered a f s) s) }
 
 -- ---- handles and data
-legal-handle : (h : ℕ) → 1 ≤ h → h ≤ 0x7EFF → badHandle h ≡ false
+pub legal-handle : (h : ℕ) → 1 ≤ h → h ≤ 0x7EFF → badHandle h ≡ false
 legal-handle h l k = rw (ne-eqb h 0 (λ e. omega arith), lt-leb special h (omega arith))
 
 handle-legal : (h : ℕ) → badHandle h ≡ false → (1 ≤ h) × (h ≤ 0x7EFF)
@@ -290,6 +290,18 @@ changes {a} {m} {n} {f} s (delete h) c ss e =
     let w = delete-list a f h ss e in
     let z : n + 0 ≡ n = omega arith in
     rw z (subst (λ (u : List Store). Changes a m n (changed (delete h) m) n f u) (sym (w .2)) (delete-changes s h (w .0) (w .1)))
+
+-- a delete is refused by NOTFOUND for what the map has not
+pub delete-absent : {a : Area} {m : Map} {n : ℕ} {f : List ℕ} → Stands a m n f → (h : ℕ) → deletePlan a h f ≡ refuse NotFound → m h ≡ none
+delete-absent {a} {m} {f = f} s h e = go (badHandle h) (find h (entries a f)) refl (rw (g .right, ready-sound a f g (s .ready), ready-passed a f (s .ready)) at e)
+  where
+    g : Usable a f
+    g = s .given
+
+    go : (b : Bool) (o : Option Entry) → find h (entries a f) ≡ o → cond b (refuse BadHandle) (cond (isNone o) (refuse NotFound) (list (bareIf o))) ≡ refuse NotFound → m h ≡ none
+    go true o q z = absurd (let y : _≡_ {A = ℕ} 0 1 = cc in omega arith)
+    go false none q z = sym (stands-look s h) ∙ rw q
+    go false (some c) q z = absurd (let y : _≡_ {A = ℕ} 0 1 = cc in omega arith)
 
 -- a plan that lists stores was made on a ready area
 pub change-ready : (a : Area) (f : List ℕ) (r : Request) → Change r → (ss : List Store) → planOf a r f ≡ list ss → ready a f ≡ true

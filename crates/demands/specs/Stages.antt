@@ -72,14 +72,14 @@ module _ {I J : List ℕ → Type 0} {s t : Step} (rs : Resumes I s) (rt : Resum
   then-resumes = record { keeps = λ f i k. both f i k .keep; again = λ f i k. both f i k .same }
 
 -- ---- going on with what is left
--- After the first of its stores, which is fair, the step has the others to make.
-pub record Peels (a : Area) (I : List ℕ → Type 0) (s : Step) : Type 0 where
-  pub first : (f : List ℕ) → I f → (x : Store) (xs : List Store) → s f ≡ x ∷ xs → Fair a (x ∷ []) f × I (apply x f) × (s (apply x f) ≡ xs)
+-- After the first of its stores, which is fair and keeps what S says, the step has the others to make.
+pub record Peels (a : Area) (S : List ℕ → List ℕ → Type 0) (I : List ℕ → Type 0) (s : Step) : Type 0 where
+  pub first : (f : List ℕ) → I f → (x : Store) (xs : List Store) → s f ≡ x ∷ xs → Fair a (x ∷ []) f × I (apply x f) × (s (apply x f) ≡ xs) × S f (apply x f)
 
 fair-cons : {a : Area} (x : Store) (xs : List Store) (f : List ℕ) → Fair a (x ∷ []) f → Fair a xs (apply x f) → Fair a (x ∷ xs) f
 fair-cons x xs f p q = fair-append p q
 
-module _ {a : Area} {I : List ℕ → Type 0} {s : Step} (p : Peels a I s) where
+module _ {a : Area} {S : List ℕ → List ℕ → Type 0} {I : List ℕ → Type 0} {s : Step} (p : Peels a S I s) where
   peel : (ss : List Store) (k : ℕ) (f : List ℕ) → I f → s f ≡ ss → I (made (take k ss) f) × (s (made (take k ss) f) ≡ drop k ss)
   peel [] zero f i e = (i, e)
   peel [] (suc k) f i e = (i, e)
@@ -103,6 +103,15 @@ module _ {a : Area} {I : List ℕ → Type 0} {s : Step} (p : Peels a I s) where
       let e : made (take (length (s f)) (s f)) f ≡ after s f = ap (λ (u : List Store). made u f) (take-length (s f)) in
       (subst I e (q .0), ap s (sym e) ∙ q .1 ∙ drop-length (s f))
 
+  -- and it keeps what each of its stores keeps
+  module _ (same : (f : List ℕ) → S f f) (on : (f g h : List ℕ) → S f g → S g h → S f h) where
+    same-from : (ss : List Store) (f : List ℕ) → I f → s f ≡ ss → S f (made ss f)
+    same-from [] f i e = same f
+    same-from (x ∷ xs) f i e = let q = p .first f i x xs e in on f (apply x f) (made xs (apply x f)) (q .3) (same-from xs (apply x f) (q .1) (q .2))
+
+    pub peels-same : (f : List ℕ) → I f → S f (after s f)
+    peels-same f i = same-from (s f) f i refl
+
   fair-from : (ss : List Store) (f : List ℕ) → I f → s f ≡ ss → Fair a ss f
   fair-from [] f i e = fair-end
   fair-from (x ∷ xs) f i e = let q = p .first f i x xs e in fair-cons x xs f (q .0) (fair-from xs (apply x f) (q .1) (q .2))
@@ -111,28 +120,28 @@ module _ {a : Area} {I : List ℕ → Type 0} {s : Step} (p : Peels a I s) where
   peels-fair f i = fair-from (s f) f i refl
 
 -- two such steps, the second on the flash on which the first has nothing to do
-pub then-peels : {a : Area} {I J : List ℕ → Type 0} {s t : Step} → Peels a I s → Peels a J t → ((f : List ℕ) → I f → s f ≡ [] → J f)
-    → ((f : List ℕ) → J f → I f × (s f ≡ [])) → Peels a I (s then t)
-then-peels {a} {I} {J} {s} {t} p q to from = record { first = λ f i x xs e. go f i x xs e (s f) refl }
+pub then-peels : {a : Area} {S : List ℕ → List ℕ → Type 0} {I J : List ℕ → Type 0} {s t : Step} → Peels a S I s → Peels a S J t → ((f : List ℕ) → I f → s f ≡ [] → J f)
+    → ((f : List ℕ) → J f → I f × (s f ≡ [])) → Peels a S I (s then t)
+then-peels {a} {S} {I} {J} {s} {t} p q to from = record { first = λ f i x xs e. go f i x xs e (s f) refl }
   where
-    go : (f : List ℕ) → I f → (x : Store) (xs : List Store) → (s then t) f ≡ x ∷ xs → (ss : List Store) → s f ≡ ss → Fair a (x ∷ []) f × I (apply x f) × ((s then t) (apply x f) ≡ xs)
+    go : (f : List ℕ) → I f → (x : Store) (xs : List Store) → (s then t) f ≡ x ∷ xs → (ss : List Store) → s f ≡ ss → Fair a (x ∷ []) f × I (apply x f) × ((s then t) (apply x f) ≡ xs) × S f (apply x f)
     go f i x xs e [] z =
         let y : t f ≡ x ∷ xs = ap (λ (u : List Store). u ++ t (made u f)) (sym z) ∙ e in
         let r = q .first f (to f i z) x xs y in
         let b = from (apply x f) (r .1) in
-        (r .0, b .0, ap (λ (u : List Store). u ++ t (made u (apply x f))) (b .1) ∙ r .2)
+        (r .0, b .0, ap (λ (u : List Store). u ++ t (made u (apply x f))) (b .1) ∙ r .2, r .3)
     go f i x xs e (y ∷ ys) z =
         let c : y ∷ (ys ++ t (made ys (apply y f))) ≡ x ∷ xs = ap (λ (u : List Store). u ++ t (made u f)) (sym z) ∙ e in
         let h : y ≡ x = head-eq-of-cons-eq c in
         let l : ys ++ t (made ys (apply y f)) ≡ xs = tail-eq-of-cons-eq c in
         let r = p .first f i x ys (z ∙ ap (λ (u : Store). u ∷ ys) h) in
-        (r .0, r .1, ap (λ (u : List Store). u ++ t (made u (apply x f))) (r .2) ∙ ap (λ (u : Store). ys ++ t (made ys (apply u f))) (sym h) ∙ l)
+        (r .0, r .1, ap (λ (u : List Store). u ++ t (made u (apply x f))) (r .2) ∙ ap (λ (u : Store). ys ++ t (made ys (apply u f))) (sym h) ∙ l, r .3)
 
 -- one for every page: I i is what is wanted when the steps before i have nothing to do
-module _ {a : Area} (t : ℕ → Step) (I : ℕ → List ℕ → Type 0) (top : ℕ) (one : (i : ℕ) → i < top → Peels a (I i) (t i))
+module _ {a : Area} {S : List ℕ → List ℕ → Type 0} (t : ℕ → Step) (I : ℕ → List ℕ → Type 0) (top : ℕ) (one : (i : ℕ) → i < top → Peels a S (I i) (t i))
     (on : (i : ℕ) (f : List ℕ) → i < top → I i f → t i f ≡ [] → I (suc i) f)
     (back : (i : ℕ) (f : List ℕ) → i < top → I (suc i) f → I i f × (t i f ≡ [])) where
-  pub each-peels : (n i : ℕ) → i + n ≡ top → Peels a (I i) (each t n i)
+  pub each-peels : (n i : ℕ) → i + n ≡ top → Peels a S (I i) (each t n i)
   each-peels zero i e = record { first = λ f j x xs c. absurd (nil≢cons c) }
   each-peels (suc n) i e = then-peels (one i (omega arith)) (each-peels n (suc i) (omega arith)) (λ f j z. on i f (omega arith) j z) (λ f j. back i f (omega arith) j)
 
