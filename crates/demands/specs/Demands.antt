@@ -6,7 +6,7 @@ use mathlib.Core.Logic.{⊎-elim, _⊎_, inl, inr, _≢_}
 use mathlib.Core.List.{List, [], _∷_, List·Permᴰ, List·Permᴰ·swap}
 use mathlib.Core.Bool.{true, false}
 use mathlib.Core.Option.{Option, some, none}
-use Prim.Native.Nat.{ℕ, suc, _+_, _*_, _≤_, _<_}
+use Prim.Native.Nat.{ℕ, suc, _+_, _-_, _*_, _≤_, _<_}
 use native.Mathlib.Omega.{arith}
 use lib.ListN.{length, take, drop}
 use lib.Bits.{bitAnd}
@@ -19,7 +19,7 @@ use Rattle.rules.specs.declared.Refusal.the-variants.{NotFound}
 use Rattle.rules.specs.declared.Answer.{Answer}
 use Rattle.rules.specs.declared.Reading.{Reading}
 use Rattle.rules.specs.declared.Yielded.{Yielded}
-use Rattle.rules.specs.Words.{longest, lastSeal, isLive, seal}
+use Rattle.rules.specs.Words.{isLive, seal}
 use Rattle.rules.specs.Walk.{Item, items, stop, sealed}
 use Rattle.rules.specs.Areas.{R, page, kind, committed, recovery, entries, twice, dataOf, mapOf, liveWords, damaged, ready}
 use Rattle.rules.specs.Refusals.{formatChecks, recoverChecks, writeChecks, findChecks, Plan, refuse, list, outcomeOf}
@@ -101,28 +101,30 @@ module _ {a : Area} {f : List ℕ} (given : Given a f) where
   pub ready-stores : ready a f ≡ true → planOf a recover f ≡ list []
   ready-stores r = recover-planned (undamaged (ready-sound a f fit r)) ∙ ap list (ready-rests a f fit r)
 
-  -- ---- 3. Within the quota there is room: where no page has it a page to compact exists, and compacted that very page has it, with the map as it was.
-  pub room : ready a f ≡ true → (l : ℕ) → l ≤ longest → WithinQuota a (liveWords (entries a f) + l) → roomPage a f l ≡ none
-      → (i : ℕ) × (i < a .pages) × (compactPage a f l ≡ some i) × (stop (page a (made (compact a i f) f) i) + l ≤ lastSeal (a .words))
+  -- ---- 3. Within the quota there is room for an entry of l words: where no page has it a page to compact exists, and compacted that very
+  -- page has it, with the map as it was.
+  pub room : ready a f ≡ true → (l : ℕ) → l ≤ 33 → WithinQuota a (liveWords (entries a f) + l) → roomPage a f l ≡ none
+      → (i : ℕ) × (i < a .pages) × (compactPage a f l ≡ some i) × (stop (page a (made (compact a i f) f) i) + l ≤ a .words - 1)
       × Holds a (made (compact a i f) f) (mapOf a f)
   room r l h q e = go (compactPage a f l) refl
     where
-      go : (o : Option ℕ) → compactPage a f l ≡ o → (i : ℕ) × (i < a .pages) × (o ≡ some i) × (stop (page a (made (compact a i f) f) i) + l ≤ lastSeal (a .words))
+      go : (o : Option ℕ) → compactPage a f l ≡ o → (i : ℕ) × (i < a .pages) × (o ≡ some i) × (stop (page a (made (compact a i f) f) i) + l ≤ a .words - 1)
           × Holds a (made (compact a i f) f) (mapOf a f)
       go none c = absurd (compact-exists a f l (shape-of fit) h q c)
       go (some i) c =
           let p = compact-page a f l i c in
           (i, p .0, refl, packed-room (stands r) i (p .0) l (p .1), holds (packed-stands (stands r) i (p .0)))
 
-  -- ---- 4. What is written reads back, and nothing else changes.
+  -- ---- 4. What is written reads back, and nothing else changes. Live words grow by no more than the new ones, and a delete is refused by
+  -- NOTFOUND only for what the map has not.
   pub whole-change : (r : Request) → Change r → (ss : List Store) → planOf a r f ≡ list ss → Holds a (made ss f) (changed r (mapOf a f))
   whole-change r c ss e = holds (changed-by r c ss e .stands)
 
   pub live-words : (r : Request) → Change r → (ss : List Store) → planOf a r f ≡ list ss → liveWords (entries a (made ss f)) ≤ liveWords (entries a f) + newWords r
   live-words r c ss e = changed-by r c ss e .stands .live
 
-  pub deletes-held : ready a f ≡ true → (h : ℕ) → planOf a (delete h) f ≡ refuse NotFound → mapOf a f h ≡ none
-  deletes-held r h e = delete-absent (stands r) h e
+  pub not-found : ready a f ≡ true → (h : ℕ) → planOf a (delete h) f ≡ refuse NotFound → mapOf a f h ≡ none
+  not-found r h e = delete-absent (stands r) h e
 
   pub reads-back : (h : ℕ) (d : List ℕ) → Change (write h d) → (ss : List Store) → planOf a (write h d) f ≡ list ss
       → (p : ℕ) × (readOf a h (made ss f) ≡ Reading.At p (length d)) × StandsAt (made ss f) p h d
@@ -176,6 +178,9 @@ module _ {a : Area} {f : List ℕ} (given : Given a f) where
   -- ---- 5. Recovery of an undamaged area ends ready; cut at any store and made anew it ends in the very same flash, word for word, however
   -- often it is cut. Each handle keeps its last live entry: in the page that a committed R names those of R, in a torn page all but the last.
   -- With no R committed and nothing torn or double the map is unchanged.
+  pub recover-plan : damaged a f ≡ false → planOf a recover f ≡ list (recoverList a f)
+  recover-plan d = recover-planned (undamaged d)
+
   pub ends-ready : damaged a f ≡ false → ready a (recovered a f) ≡ true
   ends-ready d = recover-ready a f (undamaged d)
 
