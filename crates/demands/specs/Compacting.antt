@@ -21,11 +21,11 @@ use Rattle.rules.specs.Lists.{erase, keepLive, liveCodes, copyTo, restore, comp
 use Rattle.demands.specs.Terms.{Fair, Map, recovered, blanks, image, Goods, no-item, good-item}
 use Rattle.demands.specs.Stages.{after, after-then, fair-append}
 use Rattle.demands.specs.Pages.{goods-items, length-image, at-seal, items-image, kind-image, stop-image, words-image}
-use Rattle.demands.specs.Runs.{shape-of, same-or-not, words-left, words-right, words-append, words-page, page-in, length-page, Only, only-self, only-as, only-trans, only-same, turns-wipe}
+use Rattle.demands.specs.Runs.{meta-low, shape-of, same-or-not, words-left, words-right, words-append, words-page, page-in, length-page, Only, only-self, only-as, only-trans, only-same, turns-wipe}
 use Rattle.demands.specs.Entries.{look, look-kept, twice-kept, live-append, live-kept, live-same}
 use Rattle.demands.specs.Layout.{before, behind, entries-split, entries-only}
 use Rattle.demands.specs.Mending.{given-made, free-blank, Settled, Stands, stands-by, stands-settled, stands-look, mended-only, settled-page}
-use Rattle.demands.specs.Finishing.{meta-low, copied, part, Undamaged, undamaged-by, restored, finish-resumes, finish-fair, recovered-by}
+use Rattle.demands.specs.Finishing.{copied, part, Undamaged, undamaged-by, restored, finish-resumes, finish-fair, recovered-by}
 use Rattle.demands.specs.Room.{copy-length}
 
 -- ---- R
@@ -72,9 +72,9 @@ words-live (e ∷ es) (more b bs) = go (isLive (e .handle)) refl (words-live es 
     go true q ih = rw q (more b (words-append (words-left (e .words) (codes es) bs) ih))
     go false q ih = rw q ih
 
-length-live : (es : List Item) → length (codes (keepLive es)) ≤ length (codes es)
-length-live [] = zero-le
-length-live (e ∷ es) = go (isLive (e .handle)) refl (length-live es)
+length-kept : (es : List Item) → length (codes (keepLive es)) ≤ length (codes es)
+length-kept [] = zero-le
+length-kept (e ∷ es) = go (isLive (e .handle)) refl (length-kept es)
   where
     go : (b : Bool) → isLive (e .handle) ≡ b → length (codes (keepLive es)) ≤ length (codes es) → length (codes (keepLive (e ∷ es))) ≤ length (codes (e ∷ es))
     go true q ih = rw q (simp length-append (omega arith))
@@ -107,7 +107,7 @@ module _ {a : Area} {m : Map} {n : ℕ} {f : List ℕ} (s : Stands a m n f) (i :
   kept-fits =
       let p = settled-page settled i h in
       let l = sym (length-page a f i (fits i (omega arith))) ∙ ap length (p .1) ∙ length-image (a .pages) i (items (page a f i)) (seal ∷ blanks (p .0)) in
-      let k = length-live (items (page a f i)) in
+      let k = length-kept (items (page a f i)) in
       omega arith
 
   size : a .words ≡ 2 + (length words + room)

@@ -22,16 +22,12 @@ use Rattle.rules.specs.Laws.{and-left, and-right, nor-left, nor-right}
 use Rattle.demands.specs.Terms.{Fair, fair-end, Map, recovered, lastLive, keptOf, keptItems, kept, blanks, image}
 use Rattle.demands.specs.Stages.{made-append, after, after-then, fair-append, Resumes, then-resumes, peels-resumes, peels-ends, peels-same, peels-fair}
 use Rattle.demands.specs.Pages.{length-image, goods-items, at-seal, stop-image, sealed-shape, is-sealed, words-image}
-use Rattle.demands.specs.Runs.{shape-of, Usable, same-or-not, over-blank, take-puts, length-puts, words-take, words-append, words-left, words-page, page-in, length-page, Only, only-self, only-as, only-trans, only-same, Turns, turns-none, turns-as, turns-then, turns-put, turns-fill, turns-wipe, every-true, true-every}
+use Rattle.demands.specs.Runs.{meta-low, shape-of, Usable, same-or-not, over-blank, take-puts, length-puts, words-take, words-append, words-left, words-page, page-in, length-page, Only, only-self, only-as, only-trans, only-same, Turns, turns-none, turns-as, turns-then, turns-put, turns-fill, turns-wipe, every-true, true-every}
 use Rattle.demands.specs.Entries.{supersede-none, once-last}
 use Rattle.demands.specs.Layout.{laid-same, from-laid}
 use Rattle.demands.specs.Mending.{given-made, free-blank, Mended, Settled, Stands, stands-settled, mended-free, mended-sound, ready-settled, own-items, settled-kept, mendAndDrop, later-peels, later-ready, settled-mends}
 
 -- ---- words copied to a blank page
-pub meta-low : (n i : ℕ) → i < n → n ≤ 255 → meta1 n i < blank
-unfolding meta1
-meta-low n i h l = omega arith
-
 module _ (a : Area) (j i : ℕ) (ws : List ℕ) (m : ℕ) (low : meta1 (a .pages) i ≤ blank) (v : Words ws) (size : a .words ≡ 2 + (length ws + m)) where
   abbrev toCopy : List Store
   toCopy = puts (base a j + 2) ws

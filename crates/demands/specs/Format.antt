@@ -8,26 +8,20 @@ use Prim.Native.Nat.{ℕ, suc, zero, _+_, _-_, _*_, _≤_, _<_, zero-le}
 use native.Mathlib.Omega.{arith}
 use native.Mathlib.Nat.{eq-or-lt-of-le}
 use lib.ListN.{length}
-use Rattle.flash.specs.Stores.{blank, none, more, made, each}
+use Rattle.flash.specs.Stores.{none, more, made, each}
 use Rattle.rules.specs.declared.Area.{Area}
 use Rattle.rules.specs.Words.{meta0, meta1, seal}
-use Rattle.rules.specs.Walk.{items, sealed}
-use Rattle.rules.specs.Areas.{R, base, page, kind, entriesFrom, entries, ready}
+use Rattle.rules.specs.Areas.{R, base, page, entries, ready}
 use Rattle.rules.specs.Lists.{eraseR, formatPage, formatList}
-use Rattle.demands.specs.Terms.{Fair, fair-end, blanks, image, no-item}
+use Rattle.demands.specs.Terms.{Fair, fair-end, blanks, image, no-item, laid}
 use Rattle.demands.specs.Stages.{fair-append}
-use Rattle.demands.specs.Pages.{at-seal, items-image, kind-image}
-use Rattle.demands.specs.Runs.{shape-of, Usable, Right, right-at, page-in, Turns, turns-as, turns-then, turns-fill, turns-wipe}
-use Rattle.demands.specs.Mending.{given-made, Settled, settled-ready}
+use Rattle.demands.specs.Runs.{meta-low, shape-of, Usable, Right, right-at, page-in, Turns, turns-as, turns-then, turns-fill, turns-wipe}
+use Rattle.demands.specs.Mending.{given-made, Settled, settled-ready, laid-settled}
 
 -- ---- one page
 -- the page with the index i as format leaves it
 abbrev fresh : Area → ℕ → List ℕ
 fresh a i = image (a .pages) i [] (seal ∷ blanks (a .words - 3))
-
-meta1-word : (n i : ℕ) → i < n → n ≤ 255 → meta1 n i ≤ blank
-unfolding meta1
-meta1-word n i h m = omega arith
 
 turns-format : {a : Area} {f : List ℕ} → Right a f → (i : ℕ) → i < a .pages → (x : List ℕ) → Turns a i (formatPage a i f) x (fresh a i)
 unfolding image
@@ -36,10 +30,10 @@ turns-format {a} r i h x =
     let p : a .words ≡ suc (suc (suc (a .words - 3))) = omega arith in
     let one : base a i + 1 ≡ suc (base a i) = omega arith in
     let two : base a i + 2 ≡ suc (suc (base a i)) = omega arith in
-    let m = meta1-word (a .pages) i h (r .many) in
+    let m = meta-low (a .pages) i h (r .many) in
     rw (one, two)
     (turns-then (turns-as refl (ap blanks p) (turns-wipe a i x (omega arith)))
-    (turns-fill a i [] (meta0 ∷ (meta1 (a .pages) i ∷ (seal ∷ []))) (blanks (a .words - 3)) (base a i) (omega arith) (more (omega arith) (more m (more (omega arith) none)))))
+    (turns-fill a i [] (meta0 ∷ (meta1 (a .pages) i ∷ (seal ∷ []))) (blanks (a .words - 3)) (base a i) (omega arith) (more (omega arith) (more (omega arith) (more (omega arith) none)))))
 
 -- ---- the pages one after the other
 -- format's stores for n pages from the index j on are fair on g, leave these pages fresh, and the others as they were
@@ -83,21 +77,19 @@ whole {a} {f} g =
 pub format-fair : {a : Area} {f : List ℕ} → Usable a f → Fair a (formatList a f) f
 format-fair g = whole g .fair
 
-pub format-settled : {a : Area} {f : List ℕ} → Usable a f → Settled a (made (formatList a f) f)
-format-settled {a} {f} g =
-    let w = whole g in
-    let s : (i : ℕ) → i < a .pages → kind a (made (formatList a f) f) i ≡ sealed = λ i h. rw (w .here i h) (kind-image at-seal (a .pages) i (a .words - 3) [] no-item) in
-    record { given = given-made (formatList a f) g; spare = w .spare; sound = λ i h. rw (s i h); done = λ i h l. s i h }
+-- pages written by the layout without an entry
+laid-none : (a : Area) (n i : ℕ) → laid a (λ j. []) n i ≡ []
+laid-none a zero i = refl
+laid-none a (suc n) i = laid-none a n (suc i)
 
-no-entries : (a : Area) (f : List ℕ) (n j : ℕ) → ((i : ℕ) → j ≤ i → i < j + n → items (page a f i) ≡ []) → entriesFrom a f n j ≡ []
-no-entries a f zero j h = refl
-no-entries a f (suc n) j h = rw (h j (omega arith) (omega arith)) (no-entries a f n (suc j) (λ i lo hi. h i (omega arith) (omega arith)))
+laid-fresh : {a : Area} {f : List ℕ} → Usable a f → Settled a (made (formatList a f) f) × (entries a (made (formatList a f) f) ≡ laid a (λ i. []) (a .pages) 0)
+laid-fresh {a} {f} g = let w = whole g in laid-settled (given-made (formatList a f) g) (λ i. []) (λ i. a .words - 3) (λ i h. no-item) (w .here) (w .spare)
+
+pub format-settled : {a : Area} {f : List ℕ} → Usable a f → Settled a (made (formatList a f) f)
+format-settled g = laid-fresh g .0
 
 pub format-empty : {a : Area} {f : List ℕ} → Usable a f → entries a (made (formatList a f) f) ≡ []
-unfolding entries
-format-empty {a} {f} g =
-    no-entries a (made (formatList a f) f) (a .pages) 0
-    (λ i lo hi. rw (whole g .here i (omega arith)) (items-image at-seal (a .pages) i (a .words - 3) [] no-item))
+format-empty {a} g = laid-fresh g .1 ∙ laid-none a (a .pages) 0
 
 pub format-ready : {a : Area} {f : List ℕ} → Usable a f → ready a (made (formatList a f) f) ≡ true
 format-ready g = settled-ready (format-settled g) (rw (format-empty g))

@@ -1,6 +1,6 @@
 -- One page: written out as its entries and the words behind them, it walks to those entries and stops there, and every sealed or torn
 -- page is so written. Assumes nothing.
-use mathlib.Core.Path.{_≡_, refl, ap, sym, _∙_}
+use mathlib.Core.Path.{_≡_, refl, ap, sym, _∙_, subst}
 use mathlib.Core.List.{List, [], _∷_, _++_, append-assoc, append-nil}
 use mathlib.Core.Bool.{Bool, true, false, cond, false≢true}
 use Prim.Native.Nat.{ℕ, suc, zero, _+_, _-_, _*_, _^_, _≤_, _<_, zero-le, suc-le-suc}
@@ -212,36 +212,22 @@ module _ {w : ℕ} {k : Kind} (end : End w k) (n i m : ℕ) (es : List Item) (gs
   stop-image = rw (rest-image, length-image n i es (w ∷ blanks m)) (omega arith)
 
 -- ---- and back
-sealed-torn : sealed ≡ torn → ⊥
-sealed-torn p = let z : _≡_ {A = ℕ} 0 1 = cc in omega arith
-
-sealed-neither : sealed ≡ neither → ⊥
-sealed-neither p = let z : _≡_ {A = ℕ} 0 1 = cc in omega arith
-
-torn-neither : torn ≡ neither → ⊥
-torn-neither p = let z : _≡_ {A = ℕ} 0 1 = cc in omega arith
-
-end-sealed : (t : List ℕ) → endKind t ≡ sealed → (m : ℕ) × (t ≡ seal ∷ blanks m)
-end-sealed [] e = absurd (sealed-neither (sym e))
-end-sealed (w ∷ ws) e = go (allBlank ws) (eqb w seal) (eqb w blank) refl refl e
+end-shape : (t : List ℕ) (k : Kind) → endKind t ≡ k → (k ≡ neither → ⊥) → (w m : ℕ) × End w k × (t ≡ w ∷ blanks m)
+end-shape [] k e h = absurd (h (sym e))
+end-shape (w ∷ ws) k e h = go (allBlank ws) (eqb w seal) (eqb w blank) refl refl refl e
   where
-    go : (x y z : Bool) → allBlank ws ≡ x → eqb w seal ≡ y → cond x (cond y sealed (cond z torn neither)) neither ≡ sealed
-        → (m : ℕ) × (_≡_ {A = List ℕ} (w ∷ ws) (seal ∷ blanks m))
-    go true true z p q r = let a = eqb-true w seal q in let b = all-blank ws p in (length ws, cc)
-    go true false true p q r = absurd (sealed-torn (sym r))
-    go true false false p q r = absurd (sealed-neither (sym r))
-    go false y z p q r = absurd (sealed-neither (sym r))
+    go : (x y z : Bool) → allBlank ws ≡ x → eqb w seal ≡ y → eqb w blank ≡ z → cond x (cond y sealed (cond z torn neither)) neither ≡ k
+        → (v m : ℕ) × End v k × (_≡_ {A = List ℕ} (w ∷ ws) (v ∷ blanks m))
+    go true true z p q r e = let a = eqb-true w seal q in let b = all-blank ws p in (seal, length ws, subst (End seal) e at-seal, cc)
+    go true false true p q r e = let a = eqb-true w blank r in let b = all-blank ws p in (blank, length ws, subst (End blank) e at-blank, cc)
+    go true false false p q r e = absurd (h (sym e))
+    go false y z p q r e = absurd (h (sym e))
 
-end-torn : (t : List ℕ) → endKind t ≡ torn → (m : ℕ) × (t ≡ blank ∷ blanks m)
-end-torn [] e = absurd (torn-neither (sym e))
-end-torn (w ∷ ws) e = go (allBlank ws) (eqb w seal) (eqb w blank) refl refl e
-  where
-    go : (x y z : Bool) → allBlank ws ≡ x → eqb w blank ≡ z → cond x (cond y sealed (cond z torn neither)) neither ≡ torn
-        → (m : ℕ) × (_≡_ {A = List ℕ} (w ∷ ws) (blank ∷ blanks m))
-    go true true z p q r = absurd (sealed-torn r)
-    go true false true p q r = let a = eqb-true w blank q in let b = all-blank ws p in (length ws, cc)
-    go true false false p q r = absurd (torn-neither (sym r))
-    go false y z p q r = absurd (torn-neither (sym r))
+end-seal : {w : ℕ} → End w sealed → w ≡ seal
+end-seal at-seal = refl
+
+end-blank : {w : ℕ} → End w torn → w ≡ blank
+end-blank at-blank = refl
 
 two-words : (p : List ℕ) → 2 ≤ length p → p ≡ getD p 0 0 ∷ (getD p 1 0 ∷ drop 2 p)
 two-words [] h = absurd (omega arith)
@@ -258,25 +244,23 @@ module _ (n i : ℕ) (p : List ℕ) (l : 2 ≤ length p) where
       let d = codes-walk 0 (drop 2 p) in
       c ∙ cc
 
-  kind-right : (k : Kind) → kindOf n i p ≡ k → (k ≡ neither → ⊥) → (metaRight n i p ≡ true) × (endKind (rest p) ≡ k)
+  kind-shape : (k : Kind) → kindOf n i p ≡ k → (k ≡ neither → ⊥) → (w m : ℕ) × End w k × (p ≡ image n i (items p) (w ∷ blanks m))
   unfolding kindOf
-  kind-right k e h = go (metaRight n i p) refl e
+  kind-shape k e h = go (metaRight n i p) refl e
     where
-      go : (b : Bool) → metaRight n i p ≡ b → cond b (endKind (rest p)) neither ≡ k → (metaRight n i p ≡ true) × (endKind (rest p) ≡ k)
-      go true q r = (q, r)
+      go : (b : Bool) → metaRight n i p ≡ b → cond b (endKind (rest p)) neither ≡ k → (w m : ℕ) × End w k × (p ≡ image n i (items p) (w ∷ blanks m))
+      go true q r = let s = end-shape (rest p) k r h in (s .0, s .1, s .2, meta-shape q ∙ ap (λ (t : List ℕ). image n i (items p) t) (s .3))
       go false q r = absurd (h (sym r))
 
   pub sealed-shape : kindOf n i p ≡ sealed → (m : ℕ) × (p ≡ image n i (items p) (seal ∷ blanks m))
   sealed-shape e =
-      let r = kind-right sealed e sealed-neither in
-      let s = end-sealed (rest p) (r .1) in
-      (s .0, meta-shape (r .0) ∙ ap (λ (t : List ℕ). image n i (items p) t) (s .1))
+      let s = kind-shape sealed e (λ q. let z : _≡_ {A = ℕ} 0 1 = cc in omega arith) in
+      (s .1, s .3 ∙ ap (λ (w : ℕ). image n i (items p) (w ∷ blanks (s .1))) (end-seal (s .2)))
 
   pub torn-shape : kindOf n i p ≡ torn → (m : ℕ) × (p ≡ image n i (items p) (blank ∷ blanks m))
   torn-shape e =
-      let r = kind-right torn e torn-neither in
-      let s = end-torn (rest p) (r .1) in
-      (s .0, meta-shape (r .0) ∙ ap (λ (t : List ℕ). image n i (items p) t) (s .1))
+      let s = kind-shape torn e (λ q. let z : _≡_ {A = ℕ} 0 1 = cc in omega arith) in
+      (s .1, s .3 ∙ ap (λ (w : ℕ). image n i (items p) (w ∷ blanks (s .1))) (end-blank (s .2)))
 
 pub is-sealed : (k : Kind) → isSealed k ≡ true → k ≡ sealed
 is-sealed sealed e = refl

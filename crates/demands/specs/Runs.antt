@@ -9,7 +9,7 @@ use native.Mathlib.Omega.{arith}
 use native.Mathlib.Nat.{suc-mul, zero-mul, mul-le-mul-right, mod-eq-of-lt, eq-or-lt-of-le}
 use native.Mathlib.Numerals.{add-one}
 use lib.ListN.{length, getD, take, drop, set, length-append, length-take, length-drop, length-replicate, length-set, drop-of-length-le}
-use lib.Seq.{take-nil, take-all, take-add, take-set-le, take-set-lt, drop-set-add, drop-set-lt, getD-take, getD-drop, getD-at, set-at, sets, sets-eq}
+use lib.Seq.{take-all, take-add, take-set-le, take-set-lt, drop-set-add, drop-set-lt, getD-take, getD-drop, getD-at, set-at, sets, sets-eq}
 use lib.Bits.{bitAnd, and-mask, and-comm}
 use lib.Dec.{leb, eqb}
 use borrow.Author.Tests.{leb-true, le-leb, eq-eqb, eqb-true, not-false}
@@ -19,7 +19,7 @@ use Rattle.rules.specs.declared.Area.{Area}
 use Rattle.rules.specs.declared.PageSize.{PageSize}
 use Rattle.rules.specs.declared.PageSize.the-variants.{Small, Medium, Large}
 use Rattle.rules.specs.declared.FoundSize.{FoundSize}
-use Rattle.rules.specs.Words.{wordsOf, sizeOf}
+use Rattle.rules.specs.Words.{wordsOf, sizeOf, meta1}
 use Rattle.rules.specs.Areas.{R, base, page, every}
 use Rattle.rules.specs.Refusals.{isListed, wrongGeometry}
 use Rattle.rules.specs.Lists.{erase}
@@ -36,12 +36,11 @@ same-or-not (suc i) (suc j) = ⊎-elim (λ e. inl (ap suc e)) (λ n. inr (λ e. 
 pub over-blank : (w : ℕ) → w ≤ blank → bitAnd blank w ≡ w
 over-blank w h = let k : w < 2 ^ 32 = omega arith in and-comm blank w ∙ and-mask w 32 ∙ mod-eq-of-lt k
 
--- ---- lists of stores
-pub take-append : (k : ℕ) (x y : List Store) → take k (x ++ y) ≡ take k x ++ take (k - length x) y
-take-append k [] y = let z : k - 0 ≡ k = omega arith in rw (z, take-nil {A = Store} k)
-take-append zero (s ∷ x) y = let z : 0 - suc (length x) ≡ 0 = omega arith in rw z
-take-append (suc k) (s ∷ x) y = let z : suc k - suc (length x) ≡ k - length x = omega arith in rw (z, take-append k x y)
+pub meta-low : (n i : ℕ) → i < n → n ≤ 255 → meta1 n i < blank
+unfolding meta1
+meta-low n i h l = omega arith
 
+-- ---- lists of stores
 pub take-puts : (k at : ℕ) (ws : List ℕ) → take k (puts at ws) ≡ puts at (take k ws)
 take-puts zero at ws = refl
 take-puts (suc k) at [] = refl
