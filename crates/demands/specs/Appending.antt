@@ -24,7 +24,8 @@ use Rattle.demands.specs.Pages.{item, goods-append, goods-items, length-
 use Rattle.demands.specs.Runs.{shape-of, Usable, take-puts, length-puts, words-take, words-append, page-in, length-page, Only, only-trans, Turns, turns-as, turns-then, turns-put, turns-fill}
 use Rattle.demands.specs.Entries.{zeroed, zeroed-dead, look, live-mine, any-skip, any-at, find-some, find-none, once-insert, twice-skip, once-drop, once-apart, look-skip, look-add, look-other, live-skip, live-at, supersede-one, split-append}
 use Rattle.demands.specs.Layout.{entryAt, placed-append, before, behind, entries-split, entries-only}
-use Rattle.demands.specs.Mending.{given-made, Mended, Settled, Stands, stands-by, stands-settled, stands-look, mended-only, settled-page, dead-good, Invalidated, invalidate, mend-last, mendAll, mend-one, settled-mends}
+use Rattle.demands.specs.Settled.{given-made, Mended, Settled, Stands, stands-by, stands-settled, stands-look, mended-only, settled-page, dead-good, Invalidated, invalidate}
+use Rattle.demands.specs.Mending.{mend-last, mendAll, mend-one, settled-mends}
 use Rattle.demands.specs.Finishing.{mended-undamaged, Safe, recover-mended, recover-settled, stands-recovered}
 
 -- what is asked: a page with the room, a handle that entries may have, and data

@@ -21,11 +21,11 @@ use Rattle.rules.specs.Lists.{erase, keepLive, liveCodes, copyTo, restore, comp
 use Rattle.demands.specs.Terms.{Fair, Map, recovered, blanks, image, Goods, no-item, good-item}
 use Rattle.demands.specs.Stages.{after, after-then, fair-append}
 use Rattle.demands.specs.Pages.{goods-items, length-image, at-seal, items-image, kind-image, stop-image, words-image}
-use Rattle.demands.specs.Runs.{meta-low, shape-of, same-or-not, words-left, words-right, words-append, words-page, page-in, length-page, Only, only-self, only-as, only-trans, only-same, turns-wipe}
+use Rattle.demands.specs.Runs.{copied, part, meta-low, shape-of, same-or-not, words-left, words-right, words-append, words-page, page-in, length-page, Only, only-self, only-as, only-trans, only-same, turns-wipe}
 use Rattle.demands.specs.Entries.{look, look-kept, twice-kept, live-append, live-kept, live-same}
 use Rattle.demands.specs.Layout.{before, behind, entries-split, entries-only}
-use Rattle.demands.specs.Mending.{given-made, free-blank, Settled, Stands, stands-by, stands-settled, stands-look, mended-only, settled-page}
-use Rattle.demands.specs.Finishing.{copied, part, Undamaged, undamaged-by, restored, finish-resumes, finish-fair, recovered-by}
+use Rattle.demands.specs.Settled.{given-made, free-blank, Settled, Stands, stands-by, stands-settled, stands-look, mended-only, settled-page}
+use Rattle.demands.specs.Finishing.{Undamaged, undamaged-by, restored, finish-resumes, finish-fair, recovered-by}
 use Rattle.demands.specs.Room.{copy-length}
 
 -- ---- R

@@ -29,7 +29,7 @@ use Rattle.demands.specs.Terms.{Given, Fair, WriteStores, Typed, Change,
 use Rattle.demands.specs.Pages.{goods-items}
 use Rattle.demands.specs.Runs.{Usable, usable, given-of, shape-of}
 use Rattle.demands.specs.Entries.{once-last}
-use Rattle.demands.specs.Mending.{given-first, settled-ready, Stands, stands-settled, ready-stands, ready-sound, settled-page, laid-settled}
+use Rattle.demands.specs.Settled.{given-first, settled-ready, Stands, stands-settled, ready-stands, ready-sound, settled-page, laid-settled}
 use Rattle.demands.specs.Finishing.{Undamaged, recover-resumes, recover-fair, recover-ready, ready-rests, recovered-keeps, plain-kept}
 use Rattle.demands.specs.Format.{format-fair, format-settled, format-ready, format-empty, format-length}
 use Rattle.demands.specs.Room.{compact-page, compact-exists}

@@ -7,11 +7,11 @@ use mathlib.Core.Bool.{Bool, true, false, cond, _&&_, _||_, true≢false}
 use Prim.Native.Nat.{ℕ, suc, zero, _+_, _-_, _≤_, _<_, zero-le}
 use native.Mathlib.Omega.{arith}
 use native.Mathlib.Nat.{le-refl}
-use lib.ListN.{length, getD, take, drop, length-append, length-take, length-replicate, replicate-append-replicate}
-use lib.Seq.{take-all, take-at, take-append-le, take-append-add}
+use lib.ListN.{length, getD, take, drop, length-append, length-replicate}
+use lib.Seq.{take-at, take-append-le}
 use lib.Dec.{eqb, ltb}
 use borrow.Author.Tests.{not-false, eq-eqb, ne-eqb, ltb-true}
-use Rattle.flash.specs.Stores.{blank, Words, none, more, Store, put, apply, made, madeFirst, puts}
+use Rattle.flash.specs.Stores.{blank, Words, none, more, Store, apply, made, madeFirst}
 use Rattle.flash.specs.Laws.{le-or-lt, first-none, first-all}
 use Rattle.rules.specs.declared.Area.{Area}
 use Rattle.rules.specs.Words.{meta0, meta1, indexOf, seal}
@@ -22,70 +22,11 @@ use Rattle.rules.specs.Laws.{and-left, and-right, nor-left, nor-right}
 use Rattle.demands.specs.Terms.{Fair, fair-end, Map, recovered, lastLive, keptOf, keptItems, kept, blanks, image}
 use Rattle.demands.specs.Stages.{made-append, after, after-then, fair-append, Resumes, then-resumes, peels-resumes, peels-ends, peels-same, peels-fair}
 use Rattle.demands.specs.Pages.{length-image, goods-items, at-seal, stop-image, sealed-shape, is-sealed, words-image}
-use Rattle.demands.specs.Runs.{meta-low, shape-of, Usable, same-or-not, over-blank, take-puts, length-puts, words-take, words-append, words-left, words-page, page-in, length-page, Only, only-self, only-as, only-trans, only-same, Turns, turns-none, turns-as, turns-then, turns-put, turns-fill, turns-wipe, every-true, true-every}
+use Rattle.demands.specs.Runs.{copied, part, meta-low, shape-of, Usable, same-or-not, words-append, words-left, words-page, page-in, length-page, Only, only-self, only-as, only-trans, only-same, Turns, turns-none, turns-as, turns-then, turns-wipe, every-true, true-every}
 use Rattle.demands.specs.Entries.{supersede-none, once-last}
 use Rattle.demands.specs.Layout.{laid-same, from-laid}
-use Rattle.demands.specs.Mending.{given-made, free-blank, Mended, Settled, Stands, stands-settled, mended-free, mended-sound, ready-settled, own-items, settled-kept, mendAndDrop, later-peels, later-ready, settled-mends}
-
--- ---- words copied to a blank page
-module _ (a : Area) (j i : ℕ) (ws : List ℕ) (m : ℕ) (low : meta1 (a .pages) i ≤ blank) (v : Words ws) (size : a .words ≡ 2 + (length ws + m)) where
-  abbrev toCopy : List Store
-  toCopy = puts (base a j + 2) ws
-
-  -- blank words, as far as the first k of the words reach
-  blank-parts : (k : ℕ) → k ≤ length ws → blanks (a .words) ≡ (blank ∷ (blank ∷ [])) ++ (blanks (length (take k ws)) ++ blanks (length ws - k + m))
-  blank-parts k h =
-      let l : length (take k ws) ≡ k = simp length-take (omega arith) in
-      let z : a .words ≡ suc (suc (k + (length ws - k + m))) = omega arith in
-      rw (l, replicate-append-replicate k (length ws - k + m) blank) (ap blanks z)
-
-  filled : (k : ℕ) → k ≤ length ws → Turns a j (puts (base a j + 2) (take k ws)) (blanks (a .words)) (blank ∷ (blank ∷ (take k ws ++ blanks (length ws - k + m))))
-  filled k h = turns-as (blank-parts k h) refl (turns-fill a j (blank ∷ (blank ∷ [])) (take k ws) (blanks (length ws - k + m)) (base a j + 2) refl (words-take k v))
-
-  -- all of them, and word 0
-  headed : Turns a j (toCopy ++ put (base a j) meta0 ∷ []) (blanks (a .words)) (meta0 ∷ (blank ∷ (ws ++ blanks m)))
-  headed =
-      let t : take (length ws) ws ≡ ws = take-all (length ws) ws (omega arith) in
-      let z : length ws - length ws + m ≡ m = omega arith in
-      let f = filled (length ws) (omega arith) in
-      turns-then (rw (t, z) at f) (turns-put a j [] blank (blank ∷ (ws ++ blanks m)) (base a j) meta0 (omega arith) refl)
-
-  -- and word 1
-  pub copied : Turns a j (copyTo a j i ws) (blanks (a .words)) (meta0 ∷ (meta1 (a .pages) i ∷ (ws ++ blanks m)))
-  copied =
-      let t = turns-then headed (turns-put a j (meta0 ∷ []) blank (ws ++ blanks m) (base a j + 1) (meta1 (a .pages) i) refl (over-blank (meta1 (a .pages) i) low)) in
-      rw (append-assoc toCopy (put (base a j) meta0 ∷ []) (put (base a j + 1) (meta1 (a .pages) i) ∷ [])) at t
-
-  -- the first k stores; word 1 is blank before the last
-  pub record Part (k : ℕ) : Type 0 where
-    pub page : List ℕ
-    pub turns : Turns a j (take k (copyTo a j i ws)) (blanks (a .words)) page
-    pub uncommitted : k < length ws + 2 → getD page 1 0 ≡ blank
-
-  pub part : (k : ℕ) → Part k
-  part k = ⊎-elim few (λ l. ⊎-elim (λ q. all q) (λ q. one (omega arith)) (le-or-lt (length ws + 2) k)) (le-or-lt k (length ws))
-    where
-      lp : length toCopy ≡ length ws
-      lp = length-puts (base a j + 2) ws
-
-      few : k ≤ length ws → Part k
-      few h =
-          let t : take k (copyTo a j i ws) ≡ puts (base a j + 2) (take k ws) =
-          take-append-le k toCopy (put (base a j) meta0 ∷ (put (base a j + 1) (meta1 (a .pages) i) ∷ [])) (omega (arith, lp)) ∙ take-puts k (base a j + 2) ws in
-          record { page = blank ∷ (blank ∷ (take k ws ++ blanks (length ws - k + m))); turns = rw t (filled k h); uncommitted = λ q. refl }
-
-      one : k ≡ length ws + 1 → Part k
-      one h =
-          let z : k ≡ length toCopy + 1 = omega (arith, lp) in
-          let t : take k (copyTo a j i ws) ≡ toCopy ++ put (base a j) meta0 ∷ [] =
-          ap (λ (u : ℕ). take u (copyTo a j i ws)) z ∙ take-append-add toCopy (put (base a j) meta0 ∷ (put (base a j + 1) (meta1 (a .pages) i) ∷ [])) 1 in
-          record { page = meta0 ∷ (blank ∷ (ws ++ blanks m)); turns = rw t headed; uncommitted = λ q. refl }
-
-      all : length ws + 2 ≤ k → Part k
-      all h =
-          let l = length-append toCopy (put (base a j) meta0 ∷ (put (base a j + 1) (meta1 (a .pages) i) ∷ [])) in
-          let t : take k (copyTo a j i ws) ≡ copyTo a j i ws = take-all k (copyTo a j i ws) (omega (arith, lp)) in
-          record { page = meta0 ∷ (meta1 (a .pages) i ∷ (ws ++ blanks m)); turns = rw t copied; uncommitted = λ q. absurd (omega arith) }
+use Rattle.demands.specs.Settled.{given-made, free-blank, Mended, Settled, Stands, stands-settled, mended-free, mended-sound, ready-settled}
+use Rattle.demands.specs.Mending.{own-items, settled-kept, mendAndDrop, later-peels, later-ready, settled-mends}
 
 -- ---- what R is
 pub committed-r : (n i : ℕ) (r : List ℕ) → recoveryOf n r ≡ committed i → (i < n) × (kindOf n i r ≡ sealed)

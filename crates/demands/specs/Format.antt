@@ -16,7 +16,7 @@ use Rattle.rules.specs.Lists.{eraseR, formatPage, formatList}
 use Rattle.demands.specs.Terms.{Fair, fair-end, blanks, image, no-item, laid}
 use Rattle.demands.specs.Stages.{fair-append}
 use Rattle.demands.specs.Runs.{meta-low, shape-of, Usable, Right, right-at, page-in, Turns, turns-as, turns-then, turns-fill, turns-wipe}
-use Rattle.demands.specs.Mending.{given-made, Settled, settled-ready, laid-settled}
+use Rattle.demands.specs.Settled.{given-made, Settled, settled-ready, laid-settled}
 
 -- ---- one page
 -- the page with the index i as format leaves it

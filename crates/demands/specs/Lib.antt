@@ -4,6 +4,7 @@ pub mod Pages
 pub mod Runs
 pub mod Entries
 pub mod Layout
+pub mod Settled
 pub mod Mending
 pub mod Finishing
 pub mod Format

@@ -17,7 +17,7 @@ use Rattle.rules.specs.declared.Answer.{Answer}
 use Rattle.rules.specs.Refusals.{areaQuota, list, outcomeOf}
 use Rattle.rules.specs.Lists.{Request, delete}
 use Rattle.demands.specs.Terms.{Proper, handleIn, dataIn, newWords, Map, changed, changedAll, newWordsAll, wasCut, run, Tried, untried, and-tried, Carried, uncut, CarriedAll, no-more, and-then, ProperAll, Others, AllDiffer, Fine, FineAll}
-use Rattle.demands.specs.Mending.{Stands}
+use Rattle.demands.specs.Settled.{Stands}
 use Rattle.demands.specs.Requests.{stands-as, uncut-list, Planned, stores, absent, no-stores, not-found, Left, before, after, plans, leaves}
 
 -- ---- changes of maps

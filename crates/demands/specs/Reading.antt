@@ -27,7 +27,7 @@ use Rattle.demands.specs.Pages.{item, goods-right, goods-head, goods-ite
 use Rattle.demands.specs.Runs.{shape-of, Usable, base-suc, length-page, page-in}
 use Rattle.demands.specs.Entries.{any-at, first-some, find-some, once-apart, look-add}
 use Rattle.demands.specs.Layout.{Located, located}
-use Rattle.demands.specs.Mending.{Settled, ready-settled, ready-sound, ready-passed, passed-ready, settled-page}
+use Rattle.demands.specs.Settled.{Settled, ready-settled, ready-sound, ready-passed, passed-ready, settled-page}
 
 -- ---- where entries stand
 -- an entry written in a page: the run before it and behind it

@@ -25,7 +25,7 @@ use Rattle.demands.specs.Terms.{Fair, fair-end, appendStores, WriteStore
 use Rattle.demands.specs.Stages.{after-then, fair-append}
 use Rattle.demands.specs.Runs.{Usable, shape-of}
 use Rattle.demands.specs.Entries.{zeroed, twice-skip, once-drop, look-drop, live-skip, live-at, find-some, look}
-use Rattle.demands.specs.Mending.{Stands, stands-by, stands-settled, stands-look, ready-sound, ready-passed, passed-ready, invalidate}
+use Rattle.demands.specs.Settled.{Stands, stands-by, stands-settled, stands-look, ready-sound, ready-passed, passed-ready, invalidate}
 use Rattle.demands.specs.Finishing.{Undamaged, mended-undamaged, Safe, recover-resumes, stands-recovered}
 use Rattle.demands.specs.Room.{compact-length, append-length, room-page, compact-page, compact-exists}
 use Rattle.demands.specs.Compacting.{packed, packed-stands, packed-room, compact-fair, compact-cut}

@@ -1,5 +1,5 @@
--- Runs of pages: a right geometry, the words of a page, and what lists of stores make of one page while the rest stays as it was.
--- Assumes nothing.
+-- Runs of pages: a right geometry, the words of a page, and what lists of stores make of one page, a copy to a blank one among them, while
+-- the rest stays as it was. Assumes nothing.
 use mathlib.Core.Path.{_≡_, refl, ap, sym, _∙_}
 use mathlib.Core.List.{List, [], _∷_, _++_, append-assoc, append-nil}
 use mathlib.Core.Bool.{Bool, true, false, not, _&&_, _||_, false≢true}
@@ -8,8 +8,8 @@ use Prim.Native.Nat.{ℕ, suc, zero, _+_, _-_, _*_, _^_, _≤_, _<_, suc-le-suc}
 use native.Mathlib.Omega.{arith}
 use native.Mathlib.Nat.{suc-mul, zero-mul, mul-le-mul-right, mod-eq-of-lt, eq-or-lt-of-le}
 use native.Mathlib.Numerals.{add-one}
-use lib.ListN.{length, getD, take, drop, set, length-append, length-take, length-drop, length-replicate, length-set, drop-of-length-le}
-use lib.Seq.{take-all, take-add, take-set-le, take-set-lt, drop-set-add, drop-set-lt, getD-take, getD-drop, getD-at, set-at, sets, sets-eq}
+use lib.ListN.{length, getD, take, drop, set, length-append, length-take, length-drop, length-replicate, length-set, drop-of-length-le, replicate-append-replicate}
+use lib.Seq.{take-all, take-add, take-set-le, take-set-lt, drop-set-add, drop-set-lt, getD-take, getD-drop, getD-at, set-at, sets, sets-eq, take-append-le, take-append-add}
 use lib.Bits.{bitAnd, and-mask, and-comm}
 use lib.Dec.{leb, eqb}
 use borrow.Author.Tests.{leb-true, le-leb, eq-eqb, eqb-true, not-false}
@@ -19,10 +19,10 @@ use Rattle.rules.specs.declared.Area.{Area}
 use Rattle.rules.specs.declared.PageSize.{PageSize}
 use Rattle.rules.specs.declared.PageSize.the-variants.{Small, Medium, Large}
 use Rattle.rules.specs.declared.FoundSize.{FoundSize}
-use Rattle.rules.specs.Words.{wordsOf, sizeOf, meta1}
+use Rattle.rules.specs.Words.{wordsOf, sizeOf, meta0, meta1}
 use Rattle.rules.specs.Areas.{R, base, page, every}
 use Rattle.rules.specs.Refusals.{isListed, wrongGeometry}
-use Rattle.rules.specs.Lists.{erase}
+use Rattle.rules.specs.Lists.{erase, copyTo}
 use Rattle.rules.specs.Laws.{and-left, and-right, nor-left, nor-right, size-words}
 use Rattle.demands.specs.Terms.{Given, Fair, fair-end, fair-put, fair-wipe, blanks}
 use Rattle.demands.specs.Stages.{made-append, fair-append}
@@ -308,6 +308,66 @@ turns-wipe a i x k = record { on = wipes }
         let z : base a i + 0 ≡ base a i = omega arith in
         let o = only-sets a g i 0 (blanks (a .words)) (omega arith) in
         (fair-wipe k b fair-end, rw z at (only-as o (sets-all (page a g i) (blanks (a .words)) (n ∙ sym (length-page a g i l)))))
+
+-- ---- words copied to a blank page
+module _ (a : Area) (j i : ℕ) (ws : List ℕ) (m : ℕ) (low : meta1 (a .pages) i ≤ blank) (v : Words ws) (size : a .words ≡ 2 + (length ws + m)) where
+  abbrev toCopy : List Store
+  toCopy = puts (base a j + 2) ws
+
+  -- blank words, as far as the first k of the words reach
+  blank-parts : (k : ℕ) → k ≤ length ws → blanks (a .words) ≡ (blank ∷ (blank ∷ [])) ++ (blanks (length (take k ws)) ++ blanks (length ws - k + m))
+  blank-parts k h =
+      let l : length (take k ws) ≡ k = simp length-take (omega arith) in
+      let z : a .words ≡ suc (suc (k + (length ws - k + m))) = omega arith in
+      rw (l, replicate-append-replicate k (length ws - k + m) blank) (ap blanks z)
+
+  filled : (k : ℕ) → k ≤ length ws → Turns a j (puts (base a j + 2) (take k ws)) (blanks (a .words)) (blank ∷ (blank ∷ (take k ws ++ blanks (length ws - k + m))))
+  filled k h = turns-as (blank-parts k h) refl (turns-fill a j (blank ∷ (blank ∷ [])) (take k ws) (blanks (length ws - k + m)) (base a j + 2) refl (words-take k v))
+
+  -- all of them, and word 0
+  headed : Turns a j (toCopy ++ put (base a j) meta0 ∷ []) (blanks (a .words)) (meta0 ∷ (blank ∷ (ws ++ blanks m)))
+  headed =
+      let t : take (length ws) ws ≡ ws = take-all (length ws) ws (omega arith) in
+      let z : length ws - length ws + m ≡ m = omega arith in
+      let f = filled (length ws) (omega arith) in
+      turns-then (rw (t, z) at f) (turns-put a j [] blank (blank ∷ (ws ++ blanks m)) (base a j) meta0 (omega arith) refl)
+
+  -- and word 1
+  pub copied : Turns a j (copyTo a j i ws) (blanks (a .words)) (meta0 ∷ (meta1 (a .pages) i ∷ (ws ++ blanks m)))
+  copied =
+      let t = turns-then headed (turns-put a j (meta0 ∷ []) blank (ws ++ blanks m) (base a j + 1) (meta1 (a .pages) i) refl (over-blank (meta1 (a .pages) i) low)) in
+      rw (append-assoc toCopy (put (base a j) meta0 ∷ []) (put (base a j + 1) (meta1 (a .pages) i) ∷ [])) at t
+
+  -- the first k stores; word 1 is blank before the last
+  pub record Part (k : ℕ) : Type 0 where
+    pub page : List ℕ
+    pub turns : Turns a j (take k (copyTo a j i ws)) (blanks (a .words)) page
+    pub uncommitted : k < length ws + 2 → getD page 1 0 ≡ blank
+
+  pub part : (k : ℕ) → Part k
+  part k = ⊎-elim few (λ l. ⊎-elim (λ q. all q) (λ q. one (omega arith)) (le-or-lt (length ws + 2) k)) (le-or-lt k (length ws))
+    where
+      lp : length toCopy ≡ length ws
+      lp = length-puts (base a j + 2) ws
+
+      few : k ≤ length ws → Part k
+      few h =
+          let t : take k (copyTo a j i ws) ≡ puts (base a j + 2) (take k ws) =
+          take-append-le k toCopy (put (base a j) meta0 ∷ (put (base a j + 1) (meta1 (a .pages) i) ∷ [])) (omega (arith, lp)) ∙ take-puts k (base a j + 2) ws in
+          record { page = blank ∷ (blank ∷ (take k ws ++ blanks (length ws - k + m))); turns = rw t (filled k h); uncommitted = λ q. refl }
+
+      one : k ≡ length ws + 1 → Part k
+      one h =
+          let z : k ≡ length toCopy + 1 = omega (arith, lp) in
+          let t : take k (copyTo a j i ws) ≡ toCopy ++ put (base a j) meta0 ∷ [] =
+          ap (λ (u : ℕ). take u (copyTo a j i ws)) z ∙ take-append-add toCopy (put (base a j) meta0 ∷ (put (base a j + 1) (meta1 (a .pages) i) ∷ [])) 1 in
+          record { page = meta0 ∷ (blank ∷ (ws ++ blanks m)); turns = rw t headed; uncommitted = λ q. refl }
+
+      all : length ws + 2 ≤ k → Part k
+      all h =
+          let l = length-append toCopy (put (base a j) meta0 ∷ (put (base a j + 1) (meta1 (a .pages) i) ∷ [])) in
+          let t : take k (copyTo a j i ws) ≡ copyTo a j i ws = take-all k (copyTo a j i ws) (omega (arith, lp)) in
+          record { page = meta0 ∷ (meta1 (a .pages) i ∷ (ws ++ blanks m)); turns = rw t copied; uncommitted = λ q. absurd (omega arith) }
 
 -- ---- tests over pages
 pub every-true : (t : ℕ → Bool) (k i : ℕ) → every t k i ≡ true → (j : ℕ) → i ≤ j → j < i + k → t j ≡ true
