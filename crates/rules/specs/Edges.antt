@@ -1,5 +1,5 @@
 -- The definitions computed at their edges, on areas that are crafted word by word: causes of GEOMETRY and DAMAGED, the order of checks,
--- room to the last word, compaction and recovery with the words of every page. Assumes nothing.
+-- room to the last word, compaction and recovery with the words of every page; and what a read and a search tell. Assumes nothing.
 use mathlib.Core.Path.{_≡_, refl}
 use mathlib.Core.List.{List, [], _∷_, _++_, map}
 use mathlib.Core.Option.{some}
@@ -14,7 +14,7 @@ use Rattle.rules.specs.declared.Yielded.{Yielded}
 use Rattle.rules.specs.Words.{meta1, indexOf, header}
 use Rattle.rules.specs.Walk.{begins, items, rest, stop, metaRight, kindOf, sealed, torn, neither}
 use Rattle.rules.specs.Areas.{base, page, recoveryOf, unfinished, committed, entries, damaged, ready, mapOf}
-use Rattle.rules.specs.Refusals.{wrongGeometry, unready, holds, noRoom}
+use Rattle.rules.specs.Refusals.{readingNumber, readingStores, readingPlace, readingWords, yieldedNumber, yieldedStores, yieldedPlace, wrongGeometry, unready, holds, noRoom}
 use Rattle.rules.specs.Lists.{liveCodes, roomPage, compactPage, format, recover, write, delete}
 use Rattle.rules.specs.Search.{next, badPlace}
 use Rattle.rules.specs.Cases.{Act, asks, reads, searches, looks, looks-at-R, looks-up, weighs, Seen, answer, reading, yields, page-is, R-is, value, weight, Case, comes, must, small, zeros, blanks, sevens, enough}
@@ -97,6 +97,7 @@ over =
     ((weighs, weight 32 28)
     ∷ (asks (write 0x0001 (sevens 31)) 0, answer (Done 0))
     ∷ (asks (write 0x0001 (sevens 30)) 0, answer (Refused NoRoom))
+    ∷ (asks (write 0x0001 (sevens 27)) 0, answer (Refused NoRoom))
     ∷ (asks (write 0x0002 []) 0, answer (Refused NoRoom))
     ∷ (asks (write 0x0002 (zeros 33)) 0, answer (Refused BadLength))
     ∷ (asks (write 0x7F00 (zeros 33)) 0, answer (Refused BadHandle))
@@ -131,6 +132,12 @@ filled =
           ∷ 0x00000020
           ∷ (sevens 31 ++ 0x0002001D ∷ (zeros 28 ++ 0x7FFFFFFF ∷ (sheet (0x10100408 ∷ 0xFFFF0102 ∷ 0x7FFFFFFF ∷ []) ++ blanks 64)));
     }
+
+-- data words that look like a seal and like nothing
+abbrev seal-like : Case
+seal-like =
+    refusing (small 1) (sheet (0x10100408 ∷ 0xFFFF0001 ∷ 0x00120003 ∷ 0x7FFFFFFF ∷ 0x00000000 ∷ 0x7FFFFFFF ∷ []) ++ blanks 64)
+    ((reads 0x0012, reading (Reading.At 2 2) (0x7FFFFFFF ∷ 0x00000000 ∷ [])) ∷ [])
 
 -- ---- compaction of one page, with an old copy that moves: whole, and cut before R's word 1 and behind it
 abbrev full : List ℕ
@@ -176,6 +183,16 @@ restored xs ws =
       words = p ++ ws;
     }
 
+-- and over a page that is sealed
+abbrev rewritten : Case
+rewritten =
+    record {
+      area = small 1;
+      start = sheet (0x10100408 ∷ 0xFFFF0001 ∷ 0x7FFFFFFF ∷ []) ++ sheet (0x10100408 ∷ 0xFFFF0001 ∷ 0x00120001 ∷ 0x7FFFFFFF ∷ []);
+      steps = (asks recover enough, answer (Done 6)) ∷ [];
+      words = sheet (0x10100408 ∷ 0xFFFF0001 ∷ 0x00120001 ∷ 0x7FFFFFFF ∷ []) ++ blanks 64;
+    }
+
 -- (b) a torn page with a live last entry, one with none, one whose last is bare already; (c) a handle on three pages
 abbrev torn-pages : Case
 torn-pages =
@@ -200,13 +217,27 @@ recoveries =
     restored ((asks recover enough, answer (Done 9)) ∷ (reads 0x0005, reading (Reading.At 66 1) (0x7FFFFFFF ∷ [])) ∷ [])
     (sheet (0x10100408 ∷ 0xFFFF0102 ∷ held) ++ blanks 64)
     ∷ restored ((asks recover 6, answer (Cut 6)) ∷ []) (sheet (0xFFFFFFFF ∷ 0xFFFFFFFF ∷ held) ++ sheet (0x10100408 ∷ 0xFFFF0102 ∷ held))
+    ∷ rewritten
     ∷ torn-pages
     ∷ thrice
     ∷ []
 
 abbrev pub cases : List Case
-cases = shapes ++ (damages ++ (twofold ∷ over ∷ sought ∷ filled ∷ chosen ∷ (compactions ++ recoveries)))
+cases = shapes ++ (damages ++ (twofold ∷ over ∷ sought ∷ seal-like ∷ filled ∷ chosen ∷ (compactions ++ recoveries)))
 
 pub edges : map comes cases ≡ map must cases
 unfolding stored wiped madeFirst meta1 indexOf header begins items rest stop metaRight kindOf base page recoveryOf entries damaged ready mapOf wrongGeometry unready holds noRoom liveCodes roomPage compactPage next badPlace
 edges = refl
+
+-- ---- numbers, stores and values of a read, and of a step of a search
+abbrev told : Reading → List ℕ
+told r = readingNumber r ∷ readingStores r ∷ readingPlace r ∷ readingWords r ∷ []
+
+pub reads-tell : map told (Reading.At 2 1 ∷ Reading.Refused Damaged ∷ Reading.Refused NotFound ∷ []) ≡ (0 ∷ 0 ∷ 2 ∷ 1 ∷ []) ∷ (2 ∷ 0 ∷ 0 ∷ 0 ∷ []) ∷ (6 ∷ 0 ∷ 0 ∷ 0 ∷ []) ∷ []
+reads-tell = refl
+
+abbrev stepped : Yielded → List ℕ
+stepped y = yieldedNumber y ∷ yieldedStores y ∷ yieldedPlace y ∷ []
+
+pub searches-tell : map stepped (Yielded.At 5 ∷ Yielded.Refused BadPlace ∷ []) ≡ (0 ∷ 0 ∷ 5 ∷ []) ∷ (9 ∷ 0 ∷ 0 ∷ []) ∷ []
+searches-tell = refl
