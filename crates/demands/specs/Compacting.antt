@@ -18,9 +18,9 @@ use Rattle.rules.specs.Words.{openWords, lastSeal, meta0, meta1, indexOf, isLiv
 use Rattle.rules.specs.Walk.{Item, codes, items, stop, allBlank, isSound}
 use Rattle.rules.specs.Areas.{R, base, page, kind, free, unfinished, committed, recoveryOf, recovery, placed, pageEntries, entries, liveWords}
 use Rattle.rules.specs.Lists.{erase, keepLive, liveCodes, copyTo, restore, compact, finish}
-use Rattle.demands.specs.Terms.{Fair, Map, recovered, blanks, image, Goods, no-item, good-item}
+use Rattle.demands.specs.Terms.{Fair, Map, recovered, blanks, Goods, no-item, good-item}
 use Rattle.demands.specs.Stages.{after, after-then, fair-append}
-use Rattle.demands.specs.Pages.{goods-items, length-image, at-seal, items-image, kind-image, stop-image, words-image}
+use Rattle.demands.specs.Pages.{image, goods-items, length-image, at-seal, items-image, kind-image, stop-image, words-image}
 use Rattle.demands.specs.Runs.{copied, part, meta-low, shape-of, same-or-not, words-left, words-right, words-append, words-page, page-in, length-page, Only, only-self, only-as, only-trans, only-same, turns-wipe}
 use Rattle.demands.specs.Entries.{look, look-kept, twice-kept, live-append, live-kept, live-same}
 use Rattle.demands.specs.Layout.{before, behind, entries-split, entries-only}

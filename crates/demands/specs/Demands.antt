@@ -25,11 +25,11 @@ use Rattle.rules.specs.Areas.{R, page, kind, committed, recovery, entries, twic
 use Rattle.rules.specs.Refusals.{formatChecks, recoverChecks, writeChecks, findChecks, Plan, refuse, list, outcomeOf}
 use Rattle.rules.specs.Lists.{formatList, deleteList, compact, roomPage, compactPage, writeList, recoverList, Request, format, recover, write, delete, planOf}
 use Rattle.rules.specs.Search.{readOf, badPlace, searchOf}
-use Rattle.demands.specs.Terms.{Given, Fair, WriteStores, Typed, Change, Proper, handleIn, newWords, Map, changed, changedAll, WithinQuota, newWordsAll, Holds, wasCut, run, recovered, Recovers, Tried, CarriedAll, ProperAll, AllDiffer, FineAll, blanks, Goods, image, laid, StandsAt, lastLive, kept}
-use Rattle.demands.specs.Pages.{goods-items}
+use Rattle.demands.specs.Terms.{Given, Fair, WriteStores, Typed, Change, Proper, handleIn, newWords, Map, changed, changedAll, WithinQuota, newWordsAll, Holds, wasCut, run, recovered, Recovers, Tried, CarriedAll, ProperAll, AllDiffer, FineAll, blanks, Goods, written, layout, laid, StandsAt, lastLive, kept}
+use Rattle.demands.specs.Pages.{image-layout}
 use Rattle.demands.specs.Runs.{Usable, usable, given-of, shape-of}
 use Rattle.demands.specs.Entries.{once-last}
-use Rattle.demands.specs.Settled.{given-first, settled-ready, Stands, stands-settled, ready-stands, ready-sound, settled-page, laid-settled}
+use Rattle.demands.specs.Settled.{given-first, settled-ready, Stands, stands-settled, ready-stands, ready-sound, sealed-layout, laid-settled}
 use Rattle.demands.specs.Finishing.{Undamaged, recover-resumes, recover-fair, recover-ready, ready-rests, recovered-keeps, plain-kept}
 use Rattle.demands.specs.Format.{format-fair, format-settled, format-ready, format-empty, format-length}
 use Rattle.demands.specs.Room.{compact-page, compact-exists}
@@ -145,13 +145,15 @@ module _ {a : Area} {f : List ℕ} (given : Given a f) where
   -- What a ready area's layout holds is what the map, reads and searches give. Its pages are as the layout writes them; and pages so written,
   -- with R blank and no handle live twice, are a ready area that holds just what was written.
   pub layout-of : ready a f ≡ true → (i : ℕ) → i < a .pages
-      → (m : ℕ) × Goods (items (page a f i)) × (page a f i ≡ image (a .pages) i (items (page a f i)) (seal ∷ blanks m))
-  layout-of r i h = let p = settled-page (stands-settled (stands r) .0) i h in (p .0, goods-items (page a f i), p .1)
+      → (es : List Item) × (m : ℕ) × Goods es × (page a f i ≡ layout (a .pages) i es 0x7FFFFFFF m) × (items (page a f i) ≡ es) × (stop (page a f i) ≡ 2 + length (written es))
+  layout-of r i h = sealed-layout (stands-settled (stands r) .0) i h
 
   pub of-layout : (es : ℕ → List Item) (m : ℕ → ℕ) → ((i : ℕ) → i < a .pages → Goods (es i))
-      → ((i : ℕ) → i < a .pages → page a f i ≡ image (a .pages) i (es i) (seal ∷ blanks (m i))) → page a f (R a) ≡ blanks (a .words)
+      → ((i : ℕ) → i < a .pages → page a f i ≡ layout (a .pages) i (es i) 0x7FFFFFFF (m i)) → page a f (R a) ≡ blanks (a .words)
       → twice (laid a es (a .pages) 0) ≡ false → (ready a f ≡ true) × (entries a f ≡ laid a es (a .pages) 0)
-  of-layout es m gs is sp t = let w = laid-settled fit es m gs is sp in (settled-ready (w .0) (rw (w .1) t), w .1)
+  of-layout es m gs is sp t =
+      let w = laid-settled fit es m gs (λ i h. is i h ∙ sym (image-layout (a .pages) i (es i) seal (m i))) sp in
+      (settled-ready (w .0) (rw (w .1) t), w .1)
 
   pub map-read : ready a f ≡ true → (h : ℕ) (d : List ℕ) → mapOf a f h ≡ some d
       → (p : ℕ) × (readOf a h f ≡ Reading.At p (length d)) × StandsAt f p h d

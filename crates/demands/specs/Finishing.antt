@@ -19,9 +19,9 @@ use Rattle.rules.specs.Walk.{codes, items, stop, allBlank, sealed, kindOf, isSe
 use Rattle.rules.specs.Areas.{R, base, page, kind, every, Recovery, free, unfinished, committed, damage, recoveryOf, recovery, isDamage, names, entries, find, damaged, ready}
 use Rattle.rules.specs.Lists.{erase, copyTo, finish, dropDoubles, recoverList}
 use Rattle.rules.specs.Laws.{and-left, and-right, nor-left, nor-right}
-use Rattle.demands.specs.Terms.{Fair, fair-end, Map, recovered, lastLive, keptOf, keptItems, kept, blanks, image}
+use Rattle.demands.specs.Terms.{Fair, fair-end, Map, recovered, lastLive, keptOf, keptItems, kept, blanks}
 use Rattle.demands.specs.Stages.{made-append, after, after-then, fair-append, Resumes, then-resumes, peels-resumes, peels-ends, peels-same, peels-fair}
-use Rattle.demands.specs.Pages.{length-image, goods-items, at-seal, stop-image, sealed-shape, is-sealed, words-image}
+use Rattle.demands.specs.Pages.{image, length-image, goods-items, at-seal, stop-image, sealed-shape, is-sealed, words-image}
 use Rattle.demands.specs.Runs.{copied, part, meta-low, shape-of, Usable, same-or-not, words-append, words-left, words-page, page-in, length-page, Only, only-self, only-as, only-trans, only-same, Turns, turns-none, turns-as, turns-then, turns-wipe, every-true, true-every}
 use Rattle.demands.specs.Entries.{supersede-none, once-last}
 use Rattle.demands.specs.Layout.{laid-same, from-laid}

@@ -15,9 +15,9 @@ use Rattle.rules.specs.Words.{isLive, seal}
 use Rattle.rules.specs.Walk.{Item, codes, items, stop, Kind, sealed, torn, neither, isSound}
 use Rattle.rules.specs.Areas.{base, page, kind, Entry, placed, pageEntries, entries, ready}
 use Rattle.rules.specs.Lists.{bare, lastOf, bareIfLive, mend, supersede, dropDoubles}
-use Rattle.demands.specs.Terms.{Fair, lastLive, butLast, keptOf, keptItems, kept, laid, blanks, image, Goods, no-item, good-item}
+use Rattle.demands.specs.Terms.{Fair, lastLive, butLast, keptOf, keptItems, kept, laid, blanks, Goods, no-item, good-item}
 use Rattle.demands.specs.Stages.{after, Peels, then-peels, each-peels, each-ends, each-rests, each-one}
-use Rattle.demands.specs.Pages.{item, goods-append, goods-left, goods-right, goods-head, goods-items, at-seal, at-blank, items-image, kind-image, stop-image, torn-shape, codes-append}
+use Rattle.demands.specs.Pages.{image, item, goods-append, goods-left, goods-right, goods-head, goods-items, at-seal, at-blank, items-image, kind-image, stop-image, torn-shape, codes-append}
 use Rattle.demands.specs.Runs.{shape-of, page-in, length-page, Only, turns-then}
 use Rattle.demands.specs.Entries.{none-supersede, supersede-first, last-skip, last-stays, dead-never}
 use Rattle.demands.specs.Layout.{laid-same, laid-split, from-laid, entryAt, placed-append}

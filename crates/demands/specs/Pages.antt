@@ -14,10 +14,23 @@ use Rattle.flash.specs.Stores.{blank, Words, more}
 use Rattle.rules.specs.Words.{longest, meta0, meta1, header, handleOf, lengthOf, special, seal}
 use Rattle.rules.specs.Walk.{Item, entryLength, codes, begins, Walked, walkIn, items, rest, stop, allBlank, Kind, sealed, torn, neither, endKind, metaRight, kindOf, isSealed}
 use Rattle.rules.specs.Laws.{and-left, and-right}
-use Rattle.demands.specs.Terms.{blanks, Good, Goods, no-item, good-item, image}
+use Rattle.demands.specs.Terms.{blanks, Good, Goods, no-item, good-item, written, layout}
 
 abbrev pub item : ℕ → List ℕ → Item
 item h d = record { handle = h; words = d }
+
+-- the page with the index i of n that has the entries es, and behind them the words t
+unfoldable pub image : ℕ → ℕ → List Item → List ℕ → List ℕ
+image n i es t = meta0 ∷ (meta1 n i ∷ (codes es ++ t))
+
+pub codes-written : (es : List Item) → codes es ≡ written es
+unfolding header
+codes-written [] = refl
+codes-written (e ∷ es) = rw (codes-written es)
+
+pub image-layout : (n i : ℕ) (es : List Item) (w m : ℕ) → image n i es (w ∷ blanks m) ≡ layout n i es w m
+unfolding image layout meta1
+image-layout n i es w m = rw (codes-written es)
 
 -- ---- entries that the layout allows
 pub goods-append : {es fs : List Item} → Goods es → Goods fs → Goods (es ++ fs)

@@ -22,8 +22,8 @@ use Rattle.rules.specs.Areas.{base, page, Entry, placed, entriesFrom, entries, 
 use Rattle.rules.specs.Refusals.{badHandle, isNone, findChecks}
 use Rattle.rules.specs.Search.{placeOf, dataLength, readOf, matches, next, badPlace, searchChecks, searchOf}
 use Rattle.rules.specs.Laws.{and-left, and-right, passed-checked, checked-passed}
-use Rattle.demands.specs.Terms.{StandsAt, blanks, image, Goods}
-use Rattle.demands.specs.Pages.{item, goods-right, goods-head, goods-items, length-image, front, length-front, image-at}
+use Rattle.demands.specs.Terms.{StandsAt, blanks, Goods}
+use Rattle.demands.specs.Pages.{image, item, goods-right, goods-head, goods-items, length-image, front, length-front, image-at}
 use Rattle.demands.specs.Runs.{shape-of, Usable, base-suc, length-page, page-in}
 use Rattle.demands.specs.Entries.{any-at, first-some, find-some, once-apart, look-add}
 use Rattle.demands.specs.Layout.{Located, located}
@@ -50,6 +50,7 @@ module _ (a : Area) (f : List ℕ) (i : ℕ) (u : List ℕ) (h : ℕ) (d v : Lis
       ∙ simp append-assoc
 
   stands-page : page a f i ≡ u ++ head ∷ (d ++ v) → base a (suc i) ≤ length f → StandsAt f (base a i + length u) h d
+  unfolding header
   stands-page e b =
       let p = base a i + length u in
       let s = base-suc a i in

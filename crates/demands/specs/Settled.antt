@@ -14,13 +14,13 @@ use Rattle.flash.specs.Stores.{blank, Store, put, apply, made, madeFirst}
 use Rattle.flash.specs.Laws.{words-made, length-made}
 use Rattle.rules.specs.declared.Area.{Area}
 use Rattle.rules.specs.Words.{indexOf, header, seal}
-use Rattle.rules.specs.Walk.{Item, entryLength, codes, items, allBlank, sealed, kindOf, isSealed, isSound}
+use Rattle.rules.specs.Walk.{Item, entryLength, codes, items, stop, allBlank, sealed, kindOf, isSealed, isSound}
 use Rattle.rules.specs.Areas.{R, base, page, kind, every, Recovery, free, unfinished, committed, damage, recoveryOf, recovery, isFree, Entry, entries, twice, damaged, ready, mapOf, liveWords}
 use Rattle.rules.specs.Refusals.{unready}
 use Rattle.rules.specs.Lists.{bare}
 use Rattle.rules.specs.Laws.{and-left, and-right}
-use Rattle.demands.specs.Terms.{Fair, Map, laid, blanks, image, Good, Goods, good-item}
-use Rattle.demands.specs.Pages.{item, goods-append, goods-left, goods-right, goods-head, goods-items, bare-header, header-dead, at-seal, blank-all, all-blank, items-image, kind-image, sealed-shape, is-sealed, front, length-front, image-front, image-at}
+use Rattle.demands.specs.Terms.{Fair, Map, laid, blanks, Good, Goods, good-item, written, layout}
+use Rattle.demands.specs.Pages.{image, image-layout, codes-written, stop-image, item, goods-append, goods-left, goods-right, goods-head, goods-items, bare-header, header-dead, at-seal, blank-all, all-blank, items-image, kind-image, sealed-shape, is-sealed, front, length-front, image-front, image-at}
 use Rattle.demands.specs.Runs.{shape-of, Usable, same-or-not, right-wrong, page-in, length-page, Only, Turns, turns-as, turns-put, every-true, true-every}
 use Rattle.demands.specs.Entries.{zeroed, look}
 use Rattle.demands.specs.Layout.{laid-same, from-laid, located}
@@ -209,3 +209,11 @@ laid-settled {a} {f} g es m gs is sp =
       record { given = g; spare = sp; sound = λ i h. rw (k i h); done = λ i h l. k i h },
       from-laid a f (a .pages) 0 ∙ laid-same a (λ i. items (page a f i)) es (a .pages) 0 (λ i lo hi. rw (is i (omega arith)) (items-image at-seal (a .pages) i (m i) (es i) (gs i (omega arith)))),
     )
+
+pub sealed-layout : {a : Area} {f : List ℕ} → Settled a f → (i : ℕ) → i < a .pages
+    → (es : List Item) × (m : ℕ) × Goods es × (page a f i ≡ layout (a .pages) i es seal m) × (items (page a f i) ≡ es) × (stop (page a f i) ≡ 2 + length (written es))
+sealed-layout {a} {f} s i h =
+    let p = settled-page s i h in
+    let es = items (page a f i) in
+    let gs = goods-items (page a f i) in
+    (es, p .0, gs, p .1 ∙ image-layout (a .pages) i es seal (p .0), refl, ap stop (p .1) ∙ stop-image at-seal (a .pages) i (p .0) es gs ∙ ap (λ (ws : List ℕ). 2 + length ws) (codes-written es))

@@ -8,12 +8,11 @@ use Prim.Native.Nat.{ℕ, suc, zero, _+_, _-_, _*_, _≤_, _<_}
 use lib.ListN.{length, getD, take, drop, replicate}
 use lib.Bits.{bitAnd}
 use lib.Dec.{eqb}
-use Rattle.flash.specs.Stores.{blank, Words, Store, put, stored, apply, made}
+use Rattle.flash.specs.Stores.{Words, Store, put, stored, apply, made}
 use Rattle.rules.specs.declared.Area.{Area}
 use Rattle.rules.specs.declared.Answer.{Answer}
 use Rattle.rules.specs.declared.Refusal.the-variants.{NotFound}
-use Rattle.rules.specs.Words.{meta0, meta1, header, special}
-use Rattle.rules.specs.Walk.{Item, entryLength, codes, items, Kind, sealed, torn, neither}
+use Rattle.rules.specs.Walk.{Item, entryLength, items, Kind, sealed, torn, neither}
 use Rattle.rules.specs.Areas.{R, base, page, kind, recovery, names, Entry, placed, pageEntries, entries, anyOf, liveOf, find, mapOf, liveWords, ready}
 use Rattle.rules.specs.Refusals.{isNone, holds, Outcome, outcome}
 use Rattle.rules.specs.Lists.{erase, roomPage, compactPage, recoverList, Request, format, recover, write, delete, planOf}
@@ -175,20 +174,34 @@ FineAll (r ∷ rs) (x ∷ xs) = Fine r x × FineAll rs xs
 
 -- ---- what stands in the run
 abbrev pub blanks : ℕ → List ℕ
-blanks n = replicate n blank
+blanks n = replicate n 0xFFFFFFFF
 
 -- an entry that the layout allows
 pub record Good (e : Item) : Type 0 where
-  pub small : e .handle < special
+  pub small : e .handle < 0x7F00
   pub short : length (e .words) ≤ 32
 
 pub data Goods : List Item → Type 0 where
   no-item : Goods []
   good-item : {e : Item} {es : List Item} → Good e → Goods es → Goods (e ∷ es)
 
--- the page with the index i of n that has the entries es, and behind them the words t
-unfoldable pub image : ℕ → ℕ → List Item → List ℕ → List ℕ
-image n i es t = meta0 ∷ (meta1 n i ∷ (codes es ++ t))
+-- entries as the layout writes them, one behind the other: header, data
+abbrev pub written : List Item → List ℕ
+written [] = []
+written (e ∷ es) = (65536 * e .handle + (length (e .words) + 1)) ∷ (e .words ++ written es)
+
+-- page i of n: metadata, the entries es, and behind them a word and blank ones. The word is the seal in a sealed page, and blank in a torn one.
+unfoldable pub layout : ℕ → ℕ → List Item → ℕ → ℕ → List ℕ
+layout n i es w m = 0x10100408 ∷ ((0xFFFF0000 + 256 * i + n) ∷ (written es ++ w ∷ blanks m))
+
+pub data PageIs (n i : ℕ) (p : List ℕ) : Type 0 where
+  sealed-page : (es : List Item) (m : ℕ) → Goods es → p ≡ layout n i es 0x7FFFFFFF m → PageIs n i p
+  torn-page : (es : List Item) (m : ℕ) → Goods es → p ≡ layout n i es 0xFFFFFFFF m → PageIs n i p
+
+-- R: free or unfinished, as long as its word 1 is blank; or committed, a sealed page of an index that it names
+pub data RIs (n : ℕ) (r : List ℕ) : Option ℕ → Type 0 where
+  open-page : getD r 1 0 ≡ 0xFFFFFFFF → RIs n r none
+  committed-page : {i : ℕ} → i < n → (es : List Item) (m : ℕ) → Goods es → r ≡ layout n i es 0x7FFFFFFF m → RIs n r (some i)
 
 -- the entries es i, es (i + 1), .. of n pages, each at its place
 abbrev pub laid : Area → (ℕ → List Item) → ℕ → ℕ → List Entry
@@ -197,7 +210,7 @@ laid a es (suc n) i = placed (base a i + 2) (es i) ++ laid a es n (suc i)
 
 -- the entry of the handle h with the data d stands at the place p of the run: its header there, its data behind it
 pub record StandsAt (f : List ℕ) (p h : ℕ) (d : List ℕ) : Type 0 where
-  pub head : getD f p 0 ≡ header h (entryLength d)
+  pub head : getD f p 0 ≡ 65536 * h + (length d + 1)
   pub words : take (length d) (drop (suc p) f) ≡ d
   pub inside : p + length d < length f
 
