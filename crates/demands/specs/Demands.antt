@@ -3,7 +3,7 @@
 -- to 255, the three page sizes. Assumes nothing.
 use mathlib.Core.Path.{_≡_, refl, ap, sym, _∙_}
 use mathlib.Core.Logic.{⊎-elim, _⊎_, inl, inr, _≢_}
-use mathlib.Core.List.{List, [], _∷_, List·Permᴰ, List·Permᴰ·swap}
+use mathlib.Core.List.{List, [], _∷_, _++_, List·Permᴰ, List·Permᴰ·swap}
 use mathlib.Core.Bool.{true, false}
 use mathlib.Core.Option.{Option, some, none}
 use Prim.Native.Nat.{ℕ, suc, _+_, _-_, _*_, _≤_, _<_}
@@ -15,27 +15,27 @@ use borrow.Author.Tests.{eq-eqb, le-leb, lt-leb}
 use Rattle.flash.specs.Stores.{Store, made, madeFirst}
 use Rattle.rules.specs.declared.Area.{Area}
 use Rattle.rules.specs.declared.Refusal.{Refusal}
-use Rattle.rules.specs.declared.Refusal.the-variants.{NotFound}
+use Rattle.rules.specs.declared.Refusal.the-variants.{NotFound, NoRoom}
 use Rattle.rules.specs.declared.Answer.{Answer}
 use Rattle.rules.specs.declared.Reading.{Reading}
 use Rattle.rules.specs.declared.Yielded.{Yielded}
 use Rattle.rules.specs.Words.{isLive, seal}
 use Rattle.rules.specs.Walk.{Item, items, stop, sealed}
-use Rattle.rules.specs.Areas.{R, page, kind, committed, recovery, entries, twice, dataOf, mapOf, liveWords, damaged, ready}
+use Rattle.rules.specs.Areas.{R, page, kind, committed, recovery, Entry, pageEntries, entries, twice, find, dataOf, mapOf, liveWords, damaged, ready}
 use Rattle.rules.specs.Refusals.{formatChecks, recoverChecks, writeChecks, findChecks, Plan, refuse, list, outcomeOf}
-use Rattle.rules.specs.Lists.{formatList, deleteList, compact, roomPage, compactPage, writeList, recoverList, Request, format, recover, write, delete, planOf}
+use Rattle.rules.specs.Lists.{formatList, bareIf, deleteList, compact, roomPage, compactPage, writeList, recoverList, Request, format, recover, write, delete, planOf}
 use Rattle.rules.specs.Search.{readOf, badPlace, searchOf}
 use Rattle.demands.specs.Terms.{Given, Fair, WriteStores, Typed, Change, Proper, handleIn, newWords, Map, changed, changedAll, WithinQuota, newWordsAll, Holds, wasCut, run, recovered, Recovers, Tried, CarriedAll, ProperAll, AllDiffer, FineAll, blanks, Goods, written, layout, laid, StandsAt, lastLive, kept}
 use Rattle.demands.specs.Pages.{image-layout}
 use Rattle.demands.specs.Runs.{Usable, usable, given-of, shape-of}
-use Rattle.demands.specs.Entries.{once-last}
+use Rattle.demands.specs.Entries.{data-some, once-last}
 use Rattle.demands.specs.Settled.{given-first, settled-ready, Stands, stands-settled, ready-stands, ready-sound, sealed-layout, laid-settled}
 use Rattle.demands.specs.Finishing.{Undamaged, recover-resumes, recover-fair, recover-ready, ready-rests, recovered-keeps, plain-kept}
 use Rattle.demands.specs.Format.{format-fair, format-settled, format-ready, format-empty, format-length}
-use Rattle.demands.specs.Room.{compact-page, compact-exists}
+use Rattle.demands.specs.Room.{room-page, no-room-page, compact-page, compact-exists}
 use Rattle.demands.specs.Compacting.{packed-stands, packed-room}
-use Rattle.demands.specs.Reading.{read-held, read-absent, held-read, search-yields, search-skips-none, search-read}
-use Rattle.demands.specs.Requests.{Changes, legal-handle, delete-absent, listed, delete-list, write-counts, write-most, changes, change-ready, run-safe, recover-planned, recovers-ends, proper-of, Left, before, after}
+use Rattle.demands.specs.Reading.{read-held, read-absent, held-read, search-yields, search-skips-none, place-entry, entry-place, search-read}
+use Rattle.demands.specs.Requests.{Changes, legal-handle, map-holds, room-held, room-left, write-planned, write-refused, delete-planned, delete-refused, delete-absent, listed, delete-list, write-counts, write-most, changes, change-ready, run-safe, recover-planned, recovers-ends, proper-of, Left, before, after}
 use Rattle.demands.specs.Orders.{tried, enough, carried-all, reordered}
 
 module _ {a : Area} {f : List ℕ} (given : Given a f) where
@@ -72,6 +72,26 @@ module _ {a : Area} {f : List ℕ} (given : Given a f) where
       go (refuse n) = given
       go (list ss) = given-of (given-first k ss fit)
 
+  -- On such an area a format is never refused. On a ready one a write of legal handle and length is planned just when the data is held or
+  -- live words and new ones are within the quota, the old copy counted; and a delete just when the map has the handle.
+  pub format-plan : planOf a format f ≡ list (formatList a f)
+  format-plan = rw (fit .right)
+
+  pub write-plan : ready a f ≡ true → (h : ℕ) (d : List ℕ) → Proper (write h d) → (mapOf a f h ≡ some d) ⊎ WithinQuota a (liveWords (entries a f) + (length d + 1))
+      → planOf a (write h d) f ≡ list (writeList a h d f)
+  write-plan r h d p c = write-planned (stands r) h d p (⊎-elim (λ e. room-held a f h d (map-holds a f h d e)) (λ l. room-left a f h d l) c)
+
+  pub write-no-room : ready a f ≡ true → (h : ℕ) (d : List ℕ) → Proper (write h d) → mapOf a f h ≢ some d
+      → a .pages * (a .words - 3 - 33) < liveWords (entries a f) + (length d + 1) → planOf a (write h d) f ≡ refuse NoRoom
+  write-no-room r h d p n l = write-refused (stands r) h d p n l
+
+  pub delete-plan : ready a f ≡ true → (h : ℕ) → Proper (delete h) → (d : List ℕ) → mapOf a f h ≡ some d → planOf a (delete h) f ≡ list (deleteList a h f)
+  unfolding mapOf
+  delete-plan r h p d e = let w = data-some (find h (entries a f)) d e in delete-planned (stands r) h p (w .0) (w .1) ∙ ap (λ (o : Option Entry). list (bareIf o)) (sym (w .1))
+
+  pub delete-none : ready a f ≡ true → (h : ℕ) → Proper (delete h) → mapOf a f h ≡ none → planOf a (delete h) f ≡ refuse NotFound
+  delete-none r h p e = delete-refused (stands r) h p e
+
   -- ---- 1. No store asks a cleared bit to come back, and each lies inside the run: whatever a plan lists, for whatever is asked.
   pub no-bit-back : (r : Request) → Typed r → (ss : List Store) → planOf a r f ≡ list ss → Fair a ss f
   no-bit-back format t ss e = rw (← listed (formatChecks a f) (formatList a f) ss e .1) (format-fair fit)
@@ -101,8 +121,20 @@ module _ {a : Area} {f : List ℕ} (given : Given a f) where
   pub ready-stores : ready a f ≡ true → planOf a recover f ≡ list []
   ready-stores r = recover-planned (undamaged (ready-sound a f fit r)) ∙ ap list (ready-rests a f fit r)
 
-  -- ---- 3. Within the quota there is room for an entry of l words: where no page has it a page to compact exists, and compacted that very
-  -- page has it, with the map as it was.
+  -- ---- 3. The page that a write takes is the lowest whose seal leaves the room for an entry of l words, and the one to compact the lowest
+  -- whose live words leave it. Within the quota there is room: where no page has it a page to compact exists, and compacted that very page
+  -- has it, with the map as it was.
+  pub lowest-room : (l i : ℕ) → roomPage a f l ≡ some i
+      → (i < a .pages) × (stop (page a f i) + l ≤ a .words - 1) × ((j : ℕ) → j < i → a .words - 1 < stop (page a f j) + l)
+  lowest-room l i e = room-page a f l i e
+
+  pub no-room : (l : ℕ) → roomPage a f l ≡ none → (i : ℕ) → i < a .pages → a .words - 1 < stop (page a f i) + l
+  no-room l e i h = no-room-page a f l e i h
+
+  pub lowest-compact : (l i : ℕ) → compactPage a f l ≡ some i
+      → (i < a .pages) × (liveWords (pageEntries a f i) + l ≤ a .words - 3) × ((j : ℕ) → j < i → a .words - 3 < liveWords (pageEntries a f j) + l)
+  lowest-compact l i e = compact-page a f l i e
+
   pub room : ready a f ≡ true → (l : ℕ) → l ≤ 33 → WithinQuota a (liveWords (entries a f) + l) → roomPage a f l ≡ none
       → (i : ℕ) × (i < a .pages) × (compactPage a f l ≡ some i) × (stop (page a (made (compact a i f) f) i) + l ≤ a .words - 1)
       × Holds a (made (compact a i f) f) (mapOf a f)
@@ -173,6 +205,13 @@ module _ {a : Area} {f : List ℕ} (given : Given a f) where
   pub search-all : (mask pattern place h p n : ℕ) → badPlace a f place ≡ false → readOf a h f ≡ Reading.At p n
       → eqb (bitAnd h mask) (bitAnd pattern mask) ≡ true → place < p → (q : ℕ) × (searchOf a mask pattern place f ≡ Yielded.At q) × (q ≤ p)
   search-all mask pattern place h p n b r e l = search-skips-none mask pattern place h p n fit b r e l
+
+  pub search-places : (place : ℕ) → badPlace a f place ≡ false
+      → (place ≡ 0) ⊎ ((pre : List Entry) × (e : Entry) × (suf : List Entry) × (entries a f ≡ pre ++ e ∷ suf) × (e .place ≡ place))
+  search-places place q = place-entry a f place q
+
+  pub places-searched : (pre : List Entry) (e : Entry) (suf : List Entry) → entries a f ≡ pre ++ e ∷ suf → badPlace a f (e .place) ≡ false
+  places-searched pre e suf q = entry-place a f pre e suf q
 
   pub search-one : (h p n : ℕ) → readOf a h f ≡ Reading.At p n → searchOf a 0xFFFF h 0 f ≡ Yielded.At p
   search-one h p n e = search-read h p n fit e

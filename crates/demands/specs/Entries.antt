@@ -3,7 +3,7 @@
 use mathlib.Core.Path.{_≡_, refl, ap, sym, _∙_}
 use mathlib.Core.Logic.{⊎-elim, _⊎_, inl, inr}
 use mathlib.Core.List.{List, [], _∷_, _++_, nil≢cons, head-eq-of-cons-eq, tail-eq-of-cons-eq}
-use mathlib.Core.Bool.{Bool, true, false, cond, _&&_, or-true, true≢false}
+use mathlib.Core.Bool.{Bool, true, false, cond, _&&_, _||_, or-true, true≢false}
 use mathlib.Core.Option.{Option, some, none}
 use Prim.Native.Nat.{ℕ, _+_}
 use native.Mathlib.Omega.{arith}
@@ -99,6 +99,24 @@ find-some h x e q =
     let r = first-some (liveOf h) x e q in
     let l = live-handle h e (r .3) in
     (r .0, r .1, r .2, l .1, l .0)
+
+pub any-some : (t : Entry → Bool) (x : List Entry) → anyOf t x ≡ true → (pre : List Entry) × (e : Entry) × (suf : List Entry) × (x ≡ pre ++ e ∷ suf) × (t e ≡ true)
+any-some t [] q = absurd (true≢false (sym q))
+any-some t (c ∷ x) q = go (t c) refl q (any-some t x)
+  where
+    go : (b : Bool) → t c ≡ b → b || anyOf t x ≡ true → (anyOf t x ≡ true → (pre : List Entry) × (e : Entry) × (suf : List Entry) × (x ≡ pre ++ e ∷ suf) × (t e ≡ true))
+        → (pre : List Entry) × (e : Entry) × (suf : List Entry) × (c ∷ x ≡ pre ++ e ∷ suf) × (t e ≡ true)
+    go true r q ih = ([], c, x, refl, r)
+    go false r q ih = let w = ih q in (c ∷ w .0, w .1, w .2, ap (λ (u : List Entry). c ∷ u) (w .3), w .4)
+
+-- the data of what is found
+pub data-some : (o : Option Entry) (d : List ℕ) → dataOf o ≡ some d → (e : Entry) × (o ≡ some e) × (e .words ≡ d)
+data-some none d q = absurd (let z : _≡_ {A = ℕ} 0 1 = cc in omega arith)
+data-some (some e) d q = (e, refl, cc)
+
+pub data-none : (o : Option Entry) → dataOf o ≡ none → o ≡ none
+data-none none q = refl
+data-none (some e) q = absurd (let z : _≡_ {A = ℕ} 0 1 = cc in omega arith)
 
 pub find-none : (h : ℕ) (x : List Entry) → find h x ≡ none → anyOf (liveOf h) x ≡ false
 find-none h [] q = refl

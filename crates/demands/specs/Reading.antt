@@ -4,6 +4,7 @@ use mathlib.Core.Path.{_≡_, refl, ap, ap₂, sym, _∙_, subst}
 use mathlib.Core.List.{List, [], _∷_, _++_, append-assoc}
 use mathlib.Core.Bool.{Bool, true, false, not, _&&_, and-false, true≢false}
 use mathlib.Core.Option.{Option, some, none}
+use mathlib.Core.Logic.{_⊎_, inl, inr}
 use Prim.Native.Nat.{ℕ, suc, zero, _+_, _^_, _≤_, _<_}
 use native.Mathlib.Omega.{arith}
 use native.Mathlib.Nat.{le-refl, le-trans, mod-eq-of-lt}
@@ -18,14 +19,14 @@ use Rattle.rules.specs.declared.Reading.{Reading}
 use Rattle.rules.specs.declared.Yielded.{Yielded}
 use Rattle.rules.specs.Words.{header, special, isLive, seal}
 use Rattle.rules.specs.Walk.{Item, entryLength, codes, items}
-use Rattle.rules.specs.Areas.{base, page, Entry, placed, entriesFrom, entries, firstOf, liveOf, twice, find, dataOf, mapOf, ready}
+use Rattle.rules.specs.Areas.{base, page, Entry, placed, entriesFrom, entries, anyOf, firstOf, liveOf, twice, find, dataOf, mapOf, ready}
 use Rattle.rules.specs.Refusals.{badHandle, isNone, findChecks}
 use Rattle.rules.specs.Search.{placeOf, dataLength, readOf, matches, next, badPlace, searchChecks, searchOf}
 use Rattle.rules.specs.Laws.{and-left, and-right, passed-checked, checked-passed}
 use Rattle.demands.specs.Terms.{StandsAt, blanks, Goods}
 use Rattle.demands.specs.Pages.{image, item, goods-right, goods-head, goods-items, length-image, front, length-front, image-at}
 use Rattle.demands.specs.Runs.{shape-of, Usable, base-suc, length-page, page-in}
-use Rattle.demands.specs.Entries.{any-at, first-some, find-some, once-apart, look-add}
+use Rattle.demands.specs.Entries.{data-some, data-none, any-some, any-at, first-some, find-some, once-apart, look-add}
 use Rattle.demands.specs.Layout.{Located, located}
 use Rattle.demands.specs.Settled.{Settled, ready-settled, ready-sound, ready-passed, passed-ready, settled-page}
 
@@ -155,14 +156,6 @@ first-agree t s (c ∷ x) h =
     rw (h [] c x refl, first-agree t s x (λ pre e suf q. h (c ∷ pre) e suf (ap (λ (u : List Entry). c ∷ u) q)))
 
 -- ---- reads
-data-some : (o : Option Entry) (d : List ℕ) → dataOf o ≡ some d → (e : Entry) × (o ≡ some e) × (e .words ≡ d)
-data-some none d q = absurd (let z : _≡_ {A = ℕ} 0 1 = cc in omega arith)
-data-some (some e) d q = (e, refl, cc)
-
-data-none : (o : Option Entry) → dataOf o ≡ none → o ≡ none
-data-none none q = refl
-data-none (some e) q = absurd (let z : _≡_ {A = ℕ} 0 1 = cc in omega arith)
-
 find-stands : {a : Area} {f : List ℕ} (h : ℕ) (e : Entry) → Settled a f → find h (entries a f) ≡ some e → StandsAt f (e .place) h (e .words)
 find-stands {a} {f} h e s q =
     let r = find-some h (entries a f) e q in
@@ -228,10 +221,21 @@ abbrev wanted : ℕ → ℕ → ℕ → Entry → Bool
 wanted mask pattern place e = ltb place (e .place) && matches mask pattern e
 
 -- an entry's place is one to go on from
-entry-place : (a : Area) (f : List ℕ) (pre : List Entry) (e : Entry) (suf : List Entry) → entries a f ≡ pre ++ e ∷ suf → badPlace a f (e .place) ≡ false
+pub entry-place : (a : Area) (f : List ℕ) (pre : List Entry) (e : Entry) (suf : List Entry) → entries a f ≡ pre ++ e ∷ suf → badPlace a f (e .place) ≡ false
 unfolding badPlace
 entry-place a f pre e suf q =
     rw (q, any-at (λ c. eqb (c .place) (e .place)) pre e suf (eq-eqb (e .place) (e .place) refl)) (and-false (not (eqb (e .place) 0)))
+
+-- and there is no other but 0
+pub place-entry : (a : Area) (f : List ℕ) (p : ℕ) → badPlace a f p ≡ false → (p ≡ 0) ⊎ ((pre : List Entry) × (e : Entry) × (suf : List Entry) × (entries a f ≡ pre ++ e ∷ suf) × (e .place ≡ p))
+unfolding badPlace
+place-entry a f p q = go (eqb p 0) refl (anyOf (λ e. eqb (e .place) p) (entries a f)) refl
+  where
+    go : (b : Bool) → eqb p 0 ≡ b → (c : Bool) → anyOf (λ e. eqb (e .place) p) (entries a f) ≡ c
+        → (p ≡ 0) ⊎ ((pre : List Entry) × (e : Entry) × (suf : List Entry) × (entries a f ≡ pre ++ e ∷ suf) × (e .place ≡ p))
+    go true x c y = inl (eqb-true p 0 x)
+    go false x true y = let w = any-some (λ e. eqb (e .place) p) (entries a f) y in inr (w .0, w .1, w .2, w .3, eqb-true (w .1 .place) p (w .4))
+    go false x false y = absurd (true≢false (rw (x, y) at q))
 
 module _ {a : Area} {f : List ℕ} (mask pattern place : ℕ) where
   searched : (c : Entry) → Usable a f → ready a f ≡ true → badPlace a f place ≡ false → next a f mask pattern place ≡ some c

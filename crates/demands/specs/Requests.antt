@@ -1,20 +1,20 @@
 -- Writes and deletes as they are asked for: every list of stores that a plan gives is fair, makes the change that was asked, and cut
 -- anywhere is recovered to the map from before or to the map from after; and the two facts that demand 3 follows from. Assumes nothing.
 use mathlib.Core.Path.{_≡_, refl, ap, sym, _∙_, subst}
-use mathlib.Core.Logic.{⊎-elim, inl, inr}
+use mathlib.Core.Logic.{⊎-elim, inl, inr, _≢_}
 use mathlib.Core.List.{List, [], _∷_, _++_}
-use mathlib.Core.Bool.{Bool, true, false, cond, not, _&&_, true≢false, false≢true}
+use mathlib.Core.Bool.{Bool, true, false, cond, not, _&&_, and-false, true≢false, false≢true}
 use mathlib.Core.Option.{Option, some, none}
 use Prim.Native.Nat.{ℕ, suc, zero, _+_, _-_, _*_, _≤_, _<_}
 use native.Mathlib.Omega.{arith}
 use lib.ListN.{length, length-append}
-use lib.Dec.{leb, eqb}
-use borrow.Author.Tests.{eqb-true, eqb-false, eq-eqb, ne-eqb, leb-false, ltb-false, le-ltb, lt-leb}
+use lib.Dec.{leb, ltb, eqb}
+use borrow.Author.Tests.{lt-ltb, eqb-true, eqb-false, eq-eqb, ne-eqb, leb-false, ltb-false, le-ltb, lt-leb}
 use Rattle.flash.specs.Stores.{Words, Store, apply, made, madeFirst, _then_}
 use Rattle.flash.specs.Laws.{le-or-lt, first-none, first-all, first-nil, first-then}
 use Rattle.rules.specs.declared.Area.{Area}
 use Rattle.rules.specs.declared.Refusal.{Refusal}
-use Rattle.rules.specs.declared.Refusal.the-variants.{NotFound, BadHandle}
+use Rattle.rules.specs.declared.Refusal.the-variants.{NotFound, NoRoom, BadHandle}
 use Rattle.rules.specs.Words.{special, isLive, lastSeal}
 use Rattle.rules.specs.Walk.{entryLength, stop}
 use Rattle.rules.specs.Areas.{page, Entry, pageEntries, entries, twice, find, dataOf, mapOf, liveWords, ready}
@@ -24,7 +24,7 @@ use Rattle.rules.specs.Laws.{and-left, and-right, nor-left, nor-right, Passed, 
 use Rattle.demands.specs.Terms.{Fair, fair-end, appendStores, WriteStores, held, appended, compacted, Change, Proper, handleIn, newWords, Map, changed, wasCut, run, recovered, Recovers, whole, then-again}
 use Rattle.demands.specs.Stages.{after-then, fair-append}
 use Rattle.demands.specs.Runs.{Usable, shape-of}
-use Rattle.demands.specs.Entries.{zeroed, twice-skip, once-drop, look-drop, live-skip, live-at, find-some, look}
+use Rattle.demands.specs.Entries.{data-none, zeroed, twice-skip, once-drop, look-drop, live-skip, live-at, find-some, look}
 use Rattle.demands.specs.Settled.{Stands, stands-by, stands-settled, stands-look, ready-sound, ready-passed, passed-ready, invalidate}
 use Rattle.demands.specs.Finishing.{Undamaged, mended-undamaged, Safe, recover-resumes, stands-recovered}
 use Rattle.demands.specs.Room.{compact-length, append-length, room-page, compact-page, compact-exists}
@@ -84,7 +84,7 @@ holds-map : (a : Area) (f : List ℕ) (h : ℕ) (d : List ℕ) → holds a f h d
 unfolding holds
 holds-map a f h d e = is-data (mapOf a f h) d e
 
-map-holds : (a : Area) (f : List ℕ) (h : ℕ) (d : List ℕ) → mapOf a f h ≡ some d → holds a f h d ≡ true
+pub map-holds : (a : Area) (f : List ℕ) (h : ℕ) (d : List ℕ) → mapOf a f h ≡ some d → holds a f h d ≡ true
 unfolding holds
 map-holds a f h d e = rw e (words-same d)
 
@@ -92,17 +92,21 @@ no-room : (a : Area) (f : List ℕ) (h : ℕ) (d : List ℕ) → noRoom a f h d 
 unfolding noRoom
 no-room a f h d e q = ltb-false (areaQuota a) (liveWords (entries a f) + entryLength d) (rw q at e)
 
-room-held : (a : Area) (f : List ℕ) (h : ℕ) (d : List ℕ) → holds a f h d ≡ true → noRoom a f h d ≡ false
+pub room-held : (a : Area) (f : List ℕ) (h : ℕ) (d : List ℕ) → holds a f h d ≡ true → noRoom a f h d ≡ false
 unfolding noRoom
 room-held a f h d e = rw e
 
-room-left : (a : Area) (f : List ℕ) (h : ℕ) (d : List ℕ) → liveWords (entries a f) + entryLength d ≤ areaQuota a → noRoom a f h d ≡ false
+pub room-left : (a : Area) (f : List ℕ) (h : ℕ) (d : List ℕ) → liveWords (entries a f) + entryLength d ≤ areaQuota a → noRoom a f h d ≡ false
 unfolding noRoom
-room-left a f h d l = rw (le-ltb (areaQuota a) (liveWords (entries a f) + entryLength d) l) (go (not (holds a f h d)))
+room-left a f h d l = rw (le-ltb (areaQuota a) (liveWords (entries a f) + entryLength d) l) (and-false (not (holds a f h d)))
+
+room-gone : (a : Area) (f : List ℕ) (h : ℕ) (d : List ℕ) → mapOf a f h ≢ some d → areaQuota a < liveWords (entries a f) + entryLength d → noRoom a f h d ≡ true
+unfolding noRoom
+room-gone a f h d n l = go (holds a f h d) refl
   where
-    go : (b : Bool) → b && false ≡ false
-    go true = refl
-    go false = refl
+    go : (b : Bool) → holds a f h d ≡ b → not (holds a f h d) && ltb (areaQuota a) (liveWords (entries a f) + entryLength d) ≡ true
+    go true e = absurd (n (holds-map a f h d e))
+    go false e = rw (e, lt-ltb (areaQuota a) (liveWords (entries a f) + entryLength d) l)
 
 most : (b : Bool) → cond b 2 3 ≤ 3
 most true = omega arith
@@ -231,6 +235,11 @@ module _ {a : Area} {m : Map} {n : ℕ} {f : List ℕ} (s : Stands a m n f) (h :
       let g = s .given in
       passed-checked refuse (writeChecks a f h d) (list (writeList a h d f)) (g .right, (ready-sound a f g (s .ready), (ready-passed a f (s .ready), (legal-handle h (p .0) (p .1), (le-ltb 32 (length d) (p .2), (q, tt))))))
 
+  pub write-refused : mapOf a f h ≢ some d → areaQuota a < liveWords (entries a f) + entryLength d → writePlan a h d f ≡ refuse NoRoom
+  write-refused c l =
+      let g = s .given in
+      rw (g .right, ready-sound a f g (s .ready), ready-passed a f (s .ready), legal-handle h (p .0) (p .1), le-ltb 32 (length d) (p .2), room-gone a f h d c l)
+
 -- ---- a delete
 module _ {a : Area} {m : Map} {n : ℕ} {f : List ℕ} (s : Stands a m n f) (h : ℕ) where
   dropped : (p : List Entry) (e : Entry) (y : List Entry) → entries a f ≡ p ++ e ∷ y → e .handle ≡ h
@@ -291,7 +300,18 @@ changes {a} {m} {n} {f} s (delete h) c ss e =
     let z : n + 0 ≡ n = omega arith in
     rw z (subst (λ (u : List Store). Changes a m n (changed (delete h) m) n f u) (sym (w .2)) (delete-changes s h (w .0) (w .1)))
 
--- a delete is refused by NOTFOUND for what the map has not
+-- a delete of what the map has, and of what it has not
+pub delete-planned : {a : Area} {m : Map} {n : ℕ} {f : List ℕ} → Stands a m n f → (h : ℕ) → Proper (delete h) → (e : Entry) → find h (entries a f) ≡ some e → deletePlan a h f ≡ list (bare e ∷ [])
+delete-planned {a} {f = f} s h p e q =
+    let g = s .given in
+    rw (g .right, ready-sound a f g (s .ready), ready-passed a f (s .ready), legal-handle h (p .0) (p .1), q)
+
+pub delete-refused : {a : Area} {m : Map} {n : ℕ} {f : List ℕ} → Stands a m n f → (h : ℕ) → Proper (delete h) → m h ≡ none → deletePlan a h f ≡ refuse NotFound
+delete-refused {a} {f = f} s h p q =
+    let g = s .given in
+    let z = data-none (find h (entries a f)) (stands-look s h ∙ q) in
+    rw (g .right, ready-sound a f g (s .ready), ready-passed a f (s .ready), legal-handle h (p .0) (p .1), z)
+
 pub delete-absent : {a : Area} {m : Map} {n : ℕ} {f : List ℕ} → Stands a m n f → (h : ℕ) → deletePlan a h f ≡ refuse NotFound → m h ≡ none
 delete-absent {a} {m} {f = f} s h e = go (badHandle h) (find h (entries a f)) refl (rw (g .right, ready-sound a f g (s .ready), ready-passed a f (s .ready)) at e)
   where
@@ -365,18 +385,10 @@ module _ (a : Area) where
       stores (writeList a h d f) (write-planned s h d p z) (write-changes s h d p z .stands)
   plans (delete h) m n f p s q = go (find h (entries a f)) refl
     where
-      passed : (o : Option Entry) → find h (entries a f) ≡ o → isNone o ≡ false → deletePlan a h f ≡ list (bareIf o)
-      passed o e z =
-          let g = s .given in
-          passed-checked refuse (findChecks a f h) (list (deleteList a h f)) (g .right, (ready-sound a f g (s .ready), (ready-passed a f (s .ready), (legal-handle h (p .0) (p .1), (ap isNone e ∙ z, tt)))))
-          ∙ ap (λ (x : Option Entry). list (bareIf x)) e
-
       go : (o : Option Entry) → find h (entries a f) ≡ o → Planned a (delete h) m n f
-      go none e =
-          let g = s .given in
-          absent (rw (g .right, ready-sound a f g (s .ready), ready-passed a f (s .ready), legal-handle h (p .0) (p .1), e)) refl (sym (stands-look s h) ∙ rw e)
+      go none e = let z = sym (stands-look s h) ∙ ap dataOf e in absent (delete-refused s h p z) refl z
       go (some c) e =
-          let t = passed (some c) e refl in
+          let t = delete-planned s h p c e in
           stores (bare c ∷ []) t (changes s (delete h) tt (bare c ∷ []) t .stands)
 
   -- asked again, a write that has been made has nothing to do
