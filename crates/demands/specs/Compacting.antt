@@ -10,13 +10,12 @@ use native.Mathlib.Nat.{le-refl}
 use lib.ListN.{length, getD, take, drop, length-append}
 use lib.Seq.{take-at}
 use lib.Dec.{eqb}
-use borrow.Author.Tests.{ne-eqb, lt-ltb}
 use Rattle.flash.specs.Stores.{blank, Words, none, more, Store, apply, made, madeFirst, Step, _then_}
 use Rattle.flash.specs.Laws.{le-or-lt, first-none, first-all, first-then}
 use Rattle.rules.specs.declared.Area.{Area}
-use Rattle.rules.specs.Words.{openWords, lastSeal, meta0, meta1, indexOf, isLive, seal}
-use Rattle.rules.specs.Walk.{Item, codes, items, stop, allBlank, isSound}
-use Rattle.rules.specs.Areas.{R, base, page, kind, free, unfinished, committed, recoveryOf, recovery, placed, pageEntries, entries, liveWords}
+use Rattle.rules.specs.Words.{openWords, lastSeal, meta0, meta1, isLive, seal}
+use Rattle.rules.specs.Walk.{Item, codes, items, stop, isSound}
+use Rattle.rules.specs.Areas.{R, base, page, kind, free, unfinished, committed, recovery, placed, pageEntries, entries, liveWords}
 use Rattle.rules.specs.Lists.{erase, keepLive, liveCodes, copyTo, restore, compact, finish}
 use Rattle.demands.specs.Terms.{Fair, Map, recovered, blanks, Goods, no-item, good-item}
 use Rattle.demands.specs.Stages.{after, after-then, fair-append}
@@ -24,36 +23,9 @@ use Rattle.demands.specs.Pages.{image, goods-items, length-image, at-sea
 use Rattle.demands.specs.Runs.{copied, part, meta-low, shape-of, same-or-not, words-left, words-right, words-append, words-page, page-in, length-page, Only, only-self, only-as, only-trans, only-same, turns-wipe}
 use Rattle.demands.specs.Entries.{look, look-kept, twice-kept, live-append, live-kept, live-same}
 use Rattle.demands.specs.Layout.{before, behind, entries-split, entries-only}
-use Rattle.demands.specs.Settled.{given-made, free-blank, Settled, Stands, stands-by, stands-settled, stands-look, mended-only, settled-page}
+use Rattle.demands.specs.Settled.{open-r, closed-r, given-made, free-blank, Settled, Stands, stands-by, stands-settled, stands-look, mended-only, settled-page}
 use Rattle.demands.specs.Finishing.{Undamaged, undamaged-by, restored, finish-resumes, finish-fair, recovered-by}
 use Rattle.demands.specs.Room.{copy-length}
-
--- ---- R
-open-r : (n : ℕ) (r : List ℕ) → getD r 1 0 ≡ blank → (recoveryOf n r ≡ free) ⊎ (recoveryOf n r ≡ unfinished)
-unfolding recoveryOf
-open-r n r e = go (allBlank r) refl
-  where
-    go : (b : Bool) → allBlank r ≡ b → (recoveryOf n r ≡ free) ⊎ (recoveryOf n r ≡ unfinished)
-    go true p = inl (rw p)
-    go false p = inr (rw (p, e))
-
-index-meta : (n i : ℕ) → i < n → n ≤ 255 → indexOf (meta1 n i) ≡ i
-unfolding indexOf meta1
-index-meta n i h l = omega arith
-
-image-some : (n i : ℕ) (es : List Item) (t : List ℕ) → allBlank (image n i es t) ≡ false
-unfolding image
-image-some n i es t = refl
-
-image-word : (n i : ℕ) (es : List Item) (t : List ℕ) → getD (image n i es t) 1 0 ≡ meta1 n i
-unfolding image
-image-word n i es t = refl
-
-closed-r : (n i : ℕ) (es : List Item) (m : ℕ) → i < n → n ≤ 255 → Goods es → recoveryOf n (image n i es (seal ∷ blanks m)) ≡ committed i
-unfolding recoveryOf
-closed-r n i es m h l gs =
-    let b = ne-eqb (meta1 n i) blank (λ q. omega (arith, meta-low n i h l)) in
-    rw (image-some n i es (seal ∷ blanks m), image-word n i es (seal ∷ blanks m), b, index-meta n i h l, lt-ltb i n h, kind-image at-seal n i m es gs)
 
 -- ---- the live entries alone
 goods-live : {es : List Item} → Goods es → Goods (keepLive es)

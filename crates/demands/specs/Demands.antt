@@ -25,12 +25,12 @@ use Rattle.rules.specs.Areas.{R, page, kind, committed, recovery, Entry, pageEn
 use Rattle.rules.specs.Refusals.{formatChecks, recoverChecks, writeChecks, findChecks, Plan, refuse, list, outcomeOf}
 use Rattle.rules.specs.Lists.{formatList, bareIf, deleteList, compact, roomPage, compactPage, writeList, recoverList, Request, format, recover, write, delete, planOf}
 use Rattle.rules.specs.Search.{readOf, badPlace, searchOf}
-use Rattle.demands.specs.Terms.{Given, Fair, WriteStores, Typed, Change, Proper, handleIn, newWords, Map, changed, changedAll, WithinQuota, newWordsAll, Holds, wasCut, run, recovered, Recovers, Tried, CarriedAll, ProperAll, AllDiffer, FineAll, blanks, Goods, written, layout, laid, StandsAt, lastLive, kept}
+use Rattle.demands.specs.Terms.{Given, Fair, WriteStores, Typed, Change, Proper, handleIn, newWords, Map, changed, changedAll, WithinQuota, newWordsAll, Holds, wasCut, run, recovered, Recovers, Tried, CarriedAll, ProperAll, AllDiffer, FineAll, blanks, Goods, written, layout, PageIs, RIs, laid, StandsAt, lastLive, kept}
 use Rattle.demands.specs.Pages.{image-layout}
 use Rattle.demands.specs.Runs.{Usable, usable, given-of, shape-of}
 use Rattle.demands.specs.Entries.{data-some, once-last}
 use Rattle.demands.specs.Settled.{given-first, settled-ready, Stands, stands-settled, ready-stands, ready-sound, sealed-layout, laid-settled}
-use Rattle.demands.specs.Finishing.{Undamaged, recover-resumes, recover-fair, recover-ready, ready-rests, recovered-keeps, plain-kept}
+use Rattle.demands.specs.Finishing.{Undamaged, recover-resumes, recover-fair, recover-ready, ready-rests, recovered-keeps, plain-kept, undamaged-pages-are, pages-undamaged}
 use Rattle.demands.specs.Format.{format-fair, format-settled, format-ready, format-empty, format-length}
 use Rattle.demands.specs.Room.{room-page, no-room-page, compact-page, compact-exists}
 use Rattle.demands.specs.Compacting.{packed-stands, packed-room}
@@ -186,6 +186,14 @@ module _ {a : Area} {f : List ℕ} (given : Given a f) where
   of-layout es m gs is sp t =
       let w = laid-settled fit es m gs (λ i h. is i h ∙ sym (image-layout (a .pages) i (es i) seal (m i))) sp in
       (settled-ready (w .0) (rw (w .1) t), w .1)
+
+  -- And an undamaged area is one whose pages are sealed or torn as the layout has them, but for the one that R names if it is committed; no
+  -- other R is undamaged.
+  pub undamaged-layout : damaged a f ≡ false → (o : Option ℕ) × RIs (a .pages) (page a f (R a)) o × ((i : ℕ) → i < a .pages → o ≢ some i → PageIs (a .pages) i (page a f i))
+  undamaged-layout d = undamaged-pages-are (undamaged d)
+
+  pub layout-undamaged : (o : Option ℕ) → RIs (a .pages) (page a f (R a)) o → ((i : ℕ) → i < a .pages → o ≢ some i → PageIs (a .pages) i (page a f i)) → damaged a f ≡ false
+  layout-undamaged o r p = pages-undamaged fit r p
 
   pub map-read : ready a f ≡ true → (h : ℕ) (d : List ℕ) → mapOf a f h ≡ some d
       → (p : ℕ) × (readOf a h f ≡ Reading.At p (length d)) × StandsAt f p h d

@@ -3,47 +3,31 @@
 use mathlib.Core.Path.{_≡_, refl, ap, sym, _∙_, subst}
 use mathlib.Core.Logic.{⊎-elim, _⊎_, _≢_}
 use mathlib.Core.List.{List, [], _∷_, _++_, append-assoc}
-use mathlib.Core.Bool.{Bool, true, false, cond, _&&_, _||_, true≢false}
+use mathlib.Core.Bool.{or-true, true, false, _||_, true≢false}
+use mathlib.Core.Option.{Option, some, none}
 use Prim.Native.Nat.{ℕ, suc, zero, _+_, _-_, _≤_, _<_, zero-le}
 use native.Mathlib.Omega.{arith}
 use native.Mathlib.Nat.{le-refl}
-use lib.ListN.{length, getD, take, drop, length-append, length-replicate}
+use lib.ListN.{getD-replicate, getD, length, getD, take, drop, length-append, length-replicate}
 use lib.Seq.{take-at, take-append-le}
-use lib.Dec.{eqb, ltb}
-use borrow.Author.Tests.{not-false, eq-eqb, ne-eqb, ltb-true}
+use lib.Dec.{eqb}
+use borrow.Author.Tests.{not-false, eq-eqb, ne-eqb}
 use Rattle.flash.specs.Stores.{blank, Words, none, more, Store, apply, made, madeFirst}
 use Rattle.flash.specs.Laws.{le-or-lt, first-none, first-all}
 use Rattle.rules.specs.declared.Area.{Area}
-use Rattle.rules.specs.Words.{meta0, meta1, indexOf, seal}
-use Rattle.rules.specs.Walk.{codes, items, stop, allBlank, sealed, kindOf, isSealed, isSound}
-use Rattle.rules.specs.Areas.{R, base, page, kind, every, Recovery, free, unfinished, committed, damage, recoveryOf, recovery, isDamage, names, entries, find, damaged, ready}
+use Rattle.rules.specs.Words.{meta0, meta1, seal}
+use Rattle.rules.specs.Walk.{Kind, torn, neither, codes, items, stop, sealed, kindOf, isSound}
+use Rattle.rules.specs.Areas.{R, base, page, kind, every, Recovery, free, unfinished, committed, damage, recovery, isDamage, names, entries, find, damaged, ready}
 use Rattle.rules.specs.Lists.{erase, copyTo, finish, dropDoubles, recoverList}
-use Rattle.rules.specs.Laws.{and-left, and-right, nor-left, nor-right}
-use Rattle.demands.specs.Terms.{Fair, fair-end, Map, recovered, lastLive, keptOf, keptItems, kept, blanks}
+use Rattle.rules.specs.Laws.{nor-left, nor-right}
+use Rattle.demands.specs.Terms.{Fair, fair-end, Map, recovered, lastLive, keptOf, keptItems, kept, blanks, PageIs, sealed-page, torn-page, RIs, open-page, committed-page}
 use Rattle.demands.specs.Stages.{made-append, after, after-then, fair-append, Resumes, then-resumes, peels-resumes, peels-ends, peels-same, peels-fair}
-use Rattle.demands.specs.Pages.{image, length-image, goods-items, at-seal, stop-image, sealed-shape, is-sealed, words-image}
+use Rattle.demands.specs.Pages.{image-layout, torn-shape, at-blank, kind-image, image, length-image, goods-items, at-seal, stop-image, sealed-shape, words-image}
 use Rattle.demands.specs.Runs.{copied, part, meta-low, shape-of, Usable, same-or-not, words-append, words-left, words-page, page-in, length-page, Only, only-self, only-as, only-trans, only-same, Turns, turns-none, turns-as, turns-then, turns-wipe, every-true, true-every}
 use Rattle.demands.specs.Entries.{supersede-none, once-last}
 use Rattle.demands.specs.Layout.{laid-same, from-laid}
-use Rattle.demands.specs.Settled.{given-made, free-blank, Mended, Settled, Stands, stands-settled, mended-free, mended-sound, ready-settled}
+use Rattle.demands.specs.Settled.{committed-r, unfinished-word, open-r, closed-r, given-made, free-blank, Mended, Settled, Stands, stands-settled, mended-free, mended-sound, ready-settled}
 use Rattle.demands.specs.Mending.{own-items, settled-kept, mendAndDrop, later-peels, later-ready, settled-mends}
-
--- ---- what R is
-pub committed-r : (n i : ℕ) (r : List ℕ) → recoveryOf n r ≡ committed i → (i < n) × (kindOf n i r ≡ sealed)
-unfolding recoveryOf
-committed-r n i r e = go (allBlank r) (eqb (getD r 1 0) blank) (ltb (indexOf (getD r 1 0)) n && isSealed (kindOf n (indexOf (getD r 1 0)) r)) refl e
-  where
-    go : (b c d : Bool) → ltb (indexOf (getD r 1 0)) n && isSealed (kindOf n (indexOf (getD r 1 0)) r) ≡ d
-        → cond b free (cond c unfinished (cond d (committed (indexOf (getD r 1 0))) damage)) ≡ committed i → (i < n) × (kindOf n i r ≡ sealed)
-    go true c d p q = absurd (let z : _≡_ {A = ℕ} 0 1 = cc in omega arith)
-    go false true d p q = absurd (let z : _≡_ {A = ℕ} 0 1 = cc in omega arith)
-    go false false false p q = absurd (let z : _≡_ {A = ℕ} 0 1 = cc in omega arith)
-    go false false true p q =
-        let j = indexOf (getD r 1 0) in
-        let k : indexOf (getD r 1 0) ≡ i = cc in
-        let x = and-left (ltb j n) (isSealed (kindOf n j r)) p in
-        let y = and-right (ltb j n) (isSealed (kindOf n j r)) p in
-        (rw (← k) (ltb-true j n x), rw (← k) (is-sealed (kindOf n j r) y))
 
 -- ---- an undamaged area
 pub record Undamaged (a : Area) (f : List ℕ) : Type 0 where
@@ -383,3 +367,59 @@ plain-kept a f c s =
     go unfinished e i h = rw (e, s i h)
     go (committed j) e i h = absurd (c j e)
     go damage e i h = rw (e, s i h)
+
+-- ---- undamaged, in the layout's words
+sound-page : {n i : ℕ} {p : List ℕ} → 2 ≤ length p → isSound (kindOf n i p) ≡ true → PageIs n i p
+sound-page {n} {i} {p} l s = go (kindOf n i p) refl s
+  where
+    go : (k : Kind) → kindOf n i p ≡ k → isSound k ≡ true → PageIs n i p
+    go sealed e t = let w = sealed-shape n i p l e in sealed-page (items p) (w .0) (goods-items p) (w .1 ∙ image-layout n i (items p) seal (w .0))
+    go torn e t = let w = torn-shape n i p l e in torn-page (items p) (w .0) (goods-items p) (w .1 ∙ image-layout n i (items p) blank (w .0))
+    go neither e t = absurd (true≢false (sym t))
+
+page-sound : {n i : ℕ} {p : List ℕ} → PageIs n i p → isSound (kindOf n i p) ≡ true
+page-sound {n} {i} (sealed-page es m gs e) = rw (e, ← image-layout n i es seal m, kind-image at-seal n i m es gs)
+page-sound {n} {i} (torn-page es m gs e) = rw (e, ← image-layout n i es blank m, kind-image at-blank n i m es gs)
+
+pub undamaged-pages-are : {a : Area} {f : List ℕ} → Undamaged a f
+    → (o : Option ℕ) × RIs (a .pages) (page a f (R a)) o × ((i : ℕ) → i < a .pages → o ≢ some i → PageIs (a .pages) i (page a f i))
+undamaged-pages-are {a} {f} u = go (recovery a f) refl
+  where
+    long : (i : ℕ) → i ≤ a .pages → 2 ≤ length (page a f i)
+    long i h = let w = shape-of (u .given) .wide in let l = length-page a f i (page-in (shape-of (u .given)) i h) in omega arith
+
+    go : (r : Recovery) → recovery a f ≡ r → (o : Option ℕ) × RIs (a .pages) (page a f (R a)) o × ((i : ℕ) → i < a .pages → o ≢ some i → PageIs (a .pages) i (page a f i))
+    go free e =
+        let b = free-blank (a .pages) (page a f (R a)) e in
+        let l = long (R a) (le-refl (R a)) in
+        let w : getD (page a f (R a)) 1 0 ≡ blank = ap (λ (r : List ℕ). getD r 1 0) b ∙ getD-replicate (length (page a f (R a))) 1 blank 0 (omega arith) in
+        (none, open-page w, λ i h n. sound-page (long i (omega arith)) (rw e at (undamaged-pages u i h)))
+    go unfinished e = (none, open-page (unfinished-word (a .pages) (page a f (R a)) e), λ i h n. sound-page (long i (omega arith)) (rw e at (undamaged-pages u i h)))
+    go (committed j) e =
+        let c = committed-r (a .pages) j (page a f (R a)) e in
+        let w = sealed-shape (a .pages) j (page a f (R a)) (long (R a) (le-refl (R a))) (c .1) in
+        let es = items (page a f (R a)) in (
+          some j,
+          committed-page (c .0) es (w .0) (goods-items (page a f (R a))) (w .1 ∙ image-layout (a .pages) j es seal (w .0)),
+          λ i h n. sound-page (long i (omega arith)) (other i n (rw e at (undamaged-pages u i h))),
+        )
+      where
+        other : (i : ℕ) → some j ≢ some i → eqb i j || isSound (kind a f i) ≡ true → isSound (kind a f i) ≡ true
+        other i n q = let z = ne-eqb i j (λ c. n (ap some (sym c))) in rw z at q
+    go damage e = absurd (true≢false (sym (ap isDamage e) ∙ undamaged-r a f u))
+
+pub pages-undamaged : {a : Area} {f : List ℕ} → Usable a f → {o : Option ℕ} → RIs (a .pages) (page a f (R a)) o
+    → ((i : ℕ) → i < a .pages → o ≢ some i → PageIs (a .pages) i (page a f i)) → damaged a f ≡ false
+pages-undamaged {a} {f} g (open-page w) h =
+    ⊎-elim (λ c. undamaged-by a f (rw c) (λ i l. rw c (page-sound (h i l (λ e. let z : _≡_ {A = ℕ} 0 1 = cc in omega arith)))))
+    (λ c. undamaged-by a f (rw c) (λ i l. rw c (page-sound (h i l (λ e. let z : _≡_ {A = ℕ} 0 1 = cc in omega arith))))) (open-r (a .pages) (page a f (R a)) w)
+pages-undamaged {a} {f} g (committed-page {i = j} l es m gs e) h = undamaged-by a f (rw c) pages
+  where
+    c : recovery a f ≡ committed j
+    c = rw (e, ← image-layout (a .pages) j es seal m) (closed-r (a .pages) j es m l (shape-of g .many) gs)
+
+    pages : (i : ℕ) → i < a .pages → names (recovery a f) i || isSound (kind a f i) ≡ true
+    pages i b = rw c (⊎-elim (λ q. rw (eq-eqb i j (sym q))) (λ n. rw (page-sound (h i b (λ q. n (same q)))) (or-true (eqb i j))) (same-or-not j i))
+      where
+        same : some j ≡ some i → j ≡ i
+        same q = cc

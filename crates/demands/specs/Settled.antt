@@ -1,7 +1,7 @@
 -- Areas whose R is blank: what makes them ready, one word of a page stored, an entry invalidated, and pages as the layout writes them.
 -- Assumes nothing.
 use mathlib.Core.Path.{_≡_, refl, ap, sym, _∙_, subst}
-use mathlib.Core.Logic.{⊎-elim}
+use mathlib.Core.Logic.{⊎-elim, _⊎_, inl, inr}
 use mathlib.Core.List.{List, [], _∷_, _++_}
 use mathlib.Core.Bool.{Bool, true, false, cond, not, _&&_, and-false, false≢true}
 use Prim.Native.Nat.{ℕ, _+_, _≤_, _<_, zero-le}
@@ -9,11 +9,11 @@ use native.Mathlib.Omega.{arith}
 use native.Mathlib.Nat.{le-refl}
 use lib.ListN.{length, getD, take}
 use lib.Dec.{eqb, ltb}
-use borrow.Author.Tests.{not-true, not-false}
+use borrow.Author.Tests.{not-true, not-false, eqb-true, ltb-true, lt-ltb, ne-eqb}
 use Rattle.flash.specs.Stores.{blank, Store, put, apply, made, madeFirst}
 use Rattle.flash.specs.Laws.{words-made, length-made}
 use Rattle.rules.specs.declared.Area.{Area}
-use Rattle.rules.specs.Words.{indexOf, header, seal}
+use Rattle.rules.specs.Words.{indexOf, header, seal, meta1}
 use Rattle.rules.specs.Walk.{Item, entryLength, codes, items, stop, allBlank, sealed, kindOf, isSealed, isSound}
 use Rattle.rules.specs.Areas.{R, base, page, kind, every, Recovery, free, unfinished, committed, damage, recoveryOf, recovery, isFree, Entry, entries, twice, damaged, ready, mapOf, liveWords}
 use Rattle.rules.specs.Refusals.{unready}
@@ -21,7 +21,7 @@ use Rattle.rules.specs.Lists.{bare}
 use Rattle.rules.specs.Laws.{and-left, and-right}
 use Rattle.demands.specs.Terms.{Fair, Map, laid, blanks, Good, Goods, good-item, written, layout}
 use Rattle.demands.specs.Pages.{image, image-layout, codes-written, stop-image, item, goods-append, goods-left, goods-right, goods-head, goods-items, bare-header, header-dead, at-seal, blank-all, all-blank, items-image, kind-image, sealed-shape, is-sealed, front, length-front, image-front, image-at}
-use Rattle.demands.specs.Runs.{shape-of, Usable, same-or-not, right-wrong, page-in, length-page, Only, Turns, turns-as, turns-put, every-true, true-every}
+use Rattle.demands.specs.Runs.{meta-low, shape-of, Usable, same-or-not, right-wrong, page-in, length-page, Only, Turns, turns-as, turns-put, every-true, true-every}
 use Rattle.demands.specs.Entries.{zeroed, look}
 use Rattle.demands.specs.Layout.{laid-same, from-laid, located}
 
@@ -37,16 +37,70 @@ pub blank-free : (n p : ℕ) → recoveryOf n (blanks p) ≡ free
 unfolding recoveryOf
 blank-free n p = rw (blank-all p)
 
-pub free-blank : (n : ℕ) (r : List ℕ) → recoveryOf n r ≡ free → r ≡ blanks (length r)
+-- what the words of R say of it
+data RShape (n : ℕ) (r : List ℕ) : Recovery → Type 0 where
+  shape-free : r ≡ blanks (length r) → RShape n r free
+  shape-unfinished : getD r 1 0 ≡ blank → RShape n r unfinished
+  shape-committed : {i : ℕ} → i < n → kindOf n i r ≡ sealed → RShape n r (committed i)
+  shape-damage : RShape n r damage
+
+r-shape : (n : ℕ) (r : List ℕ) (s : Recovery) → recoveryOf n r ≡ s → RShape n r s
 unfolding recoveryOf
-free-blank n r e = go (allBlank r) refl (eqb (getD r 1 0) blank) (ltb (indexOf (getD r 1 0)) n && isSealed (kindOf n (indexOf (getD r 1 0)) r)) e
+r-shape n r s e = subst (RShape n r) e (go (allBlank r) refl (eqb (getD r 1 0) blank) refl (ltb (indexOf (getD r 1 0)) n && isSealed (kindOf n (indexOf (getD r 1 0)) r)) refl)
   where
-    go : (b : Bool) → allBlank r ≡ b → (c d : Bool)
-        → cond b free (cond c unfinished (cond d (committed (indexOf (getD r 1 0))) damage)) ≡ free → r ≡ blanks (length r)
-    go true p c d q = all-blank r p
-    go false p true d q = absurd (let z : _≡_ {A = ℕ} 0 1 = cc in omega arith)
-    go false p false true q = absurd (let z : _≡_ {A = ℕ} 0 1 = cc in omega arith)
-    go false p false false q = absurd (let z : _≡_ {A = ℕ} 0 1 = cc in omega arith)
+    go : (b : Bool) → allBlank r ≡ b → (c : Bool) → eqb (getD r 1 0) blank ≡ c → (d : Bool) → ltb (indexOf (getD r 1 0)) n && isSealed (kindOf n (indexOf (getD r 1 0)) r) ≡ d
+        → RShape n r (cond b free (cond c unfinished (cond d (committed (indexOf (getD r 1 0))) damage)))
+    go true p c q d w = shape-free (all-blank r p)
+    go false p true q d w = shape-unfinished (eqb-true (getD r 1 0) blank q)
+    go false p false q true w =
+        let j = indexOf (getD r 1 0) in
+        shape-committed (ltb-true j n (and-left (ltb j n) (isSealed (kindOf n j r)) w)) (is-sealed (kindOf n j r) (and-right (ltb j n) (isSealed (kindOf n j r)) w))
+    go false p false q false w = shape-damage
+
+pub free-blank : (n : ℕ) (r : List ℕ) → recoveryOf n r ≡ free → r ≡ blanks (length r)
+free-blank n r e = go (r-shape n r free e)
+  where
+    go : RShape n r free → r ≡ blanks (length r)
+    go (shape-free b) = b
+
+pub unfinished-word : (n : ℕ) (r : List ℕ) → recoveryOf n r ≡ unfinished → getD r 1 0 ≡ blank
+unfinished-word n r e = go (r-shape n r unfinished e)
+  where
+    go : RShape n r unfinished → getD r 1 0 ≡ blank
+    go (shape-unfinished b) = b
+
+pub committed-r : (n i : ℕ) (r : List ℕ) → recoveryOf n r ≡ committed i → (i < n) × (kindOf n i r ≡ sealed)
+committed-r n i r e = go (r-shape n r (committed i) e)
+  where
+    go : RShape n r (committed i) → (i < n) × (kindOf n i r ≡ sealed)
+    go (shape-committed h k) = (h, k)
+
+-- and back
+pub open-r : (n : ℕ) (r : List ℕ) → getD r 1 0 ≡ blank → (recoveryOf n r ≡ free) ⊎ (recoveryOf n r ≡ unfinished)
+unfolding recoveryOf
+open-r n r e = go (allBlank r) refl
+  where
+    go : (b : Bool) → allBlank r ≡ b → (recoveryOf n r ≡ free) ⊎ (recoveryOf n r ≡ unfinished)
+    go true p = inl (rw p)
+    go false p = inr (rw (p, e))
+
+index-meta : (n i : ℕ) → i < n → n ≤ 255 → indexOf (meta1 n i) ≡ i
+unfolding indexOf meta1
+index-meta n i h l = omega arith
+
+image-some : (n i : ℕ) (es : List Item) (t : List ℕ) → allBlank (image n i es t) ≡ false
+unfolding image
+image-some n i es t = refl
+
+image-word : (n i : ℕ) (es : List Item) (t : List ℕ) → getD (image n i es t) 1 0 ≡ meta1 n i
+unfolding image
+image-word n i es t = refl
+
+pub closed-r : (n i : ℕ) (es : List Item) (m : ℕ) → i < n → n ≤ 255 → Goods es → recoveryOf n (image n i es (seal ∷ blanks m)) ≡ committed i
+unfolding recoveryOf
+closed-r n i es m h l gs =
+    let b = ne-eqb (meta1 n i) blank (λ q. omega (arith, meta-low n i h l)) in
+    rw (image-some n i es (seal ∷ blanks m), image-word n i es (seal ∷ blanks m), b, index-meta n i h l, lt-ltb i n h, kind-image at-seal n i m es gs)
 
 is-free : (r : Recovery) → isFree r ≡ true → r ≡ free
 is-free free e = refl
