@@ -11,7 +11,7 @@ use lib.ListN.{length, take, length-append, length-take, length-replicate, repli
 use lib.Seq.{take-append-le}
 use lib.Dec.{eqb}
 use Rattle.flash.specs.Stores.{blank, Words, none, more, Store, apply, made, madeFirst, puts}
-use Rattle.flash.specs.Laws.{le-or-lt, first-none, first-all, first-nil, first-append}
+use Rattle.flash.specs.Laws.{made-append, le-or-lt, first-none, first-all, first-nil, first-append}
 use Rattle.rules.specs.declared.Area.{Area}
 use Rattle.rules.specs.Words.{lastSeal, header, special, isLive, seal}
 use Rattle.rules.specs.Walk.{Item, entryLength, codes, items, stop}
@@ -19,7 +19,7 @@ use Rattle.rules.specs.Areas.{base, page, Entry, placed, entries, anyOf, liveOf
 use Rattle.rules.specs.Lists.{bare, bareIf, append, mend, supersede, dropDoubles, write}
 use Rattle.rules.specs.Laws.{header-over-seal}
 use Rattle.demands.specs.Terms.{Fair, fair-end, Map, changed, recovered, blanks, Good, Goods, no-item, good-item}
-use Rattle.demands.specs.Stages.{made-append, after, after-then, fair-append}
+use Rattle.demands.specs.Stages.{after, after-then, fair-append}
 use Rattle.demands.specs.Pages.{image, item, goods-append, goods-items, length-image, at-seal, at-blank, items-image, kind-image, stop-image, front, length-front, image-front, image-at}
 use Rattle.demands.specs.Runs.{shape-of, Usable, take-puts, length-puts, words-take, words-append, page-in, length-page, Only, only-trans, Turns, turns-as, turns-then, turns-put, turns-fill}
 use Rattle.demands.specs.Entries.{zeroed, zeroed-dead, look, live-mine, any-skip, any-at, find-some, find-none, once-insert, twice-skip, once-drop, once-apart, look-skip, look-add, look-other, live-skip, live-at, supersede-one, split-append}

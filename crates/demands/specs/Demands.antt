@@ -35,7 +35,7 @@ use Rattle.demands.specs.Format.{format-fair, format-settled, format-rea
 use Rattle.demands.specs.Room.{room-page, no-room-page, compact-page, compact-exists}
 use Rattle.demands.specs.Compacting.{packed-stands, packed-room}
 use Rattle.demands.specs.Reading.{read-held, read-absent, held-read, search-yields, search-skips-none, place-entry, entry-place, search-read}
-use Rattle.demands.specs.Requests.{Changes, legal-handle, map-holds, room-held, room-left, write-planned, write-refused, delete-planned, delete-refused, delete-absent, listed, delete-list, write-counts, write-most, changes, change-ready, run-safe, recover-planned, recovers-ends, proper-of, Left, before, after}
+use Rattle.demands.specs.Requests.{Changes, legal-handle, map-holds, room-held, room-left, write-planned, write-refused, delete-planned, delete-refused, delete-absent, listed, delete-list, write-counts, write-most, changes, change-ready, run-safe, recover-planned, recovers-ends, proper-of, Left, as-before, changed-already}
 use Rattle.demands.specs.Orders.{tried, enough, carried-all, reordered}
 
 module _ {a : Area} {f : List ℕ} (given : Given a f) where
@@ -294,9 +294,9 @@ module _ {a : Area} {f : List ℕ} (given : Given a f) where
   after-each-cut e rs p r o q xs g h c t =
       let n = liveWords (entries a f) + newWordsAll rs in
       let w = carried-all a rs (mapOf a f) (liveWords (entries a f)) f p (stands e) (omega arith) xs g c .0 in
-      let l = tried a r (changedAll rs (mapOf a f)) n g o q (before w) h t in
+      let l = tried a r (changedAll rs (mapOf a f)) n g o q (as-before w) h t in
       (go l, enough a r (changedAll rs (mapOf a f)) n h o q l)
     where
       go : {m : Map} {n : ℕ} → Left a r m n h → Holds a h m ⊎ Holds a h (changed r m)
-      go (before s) = inl (holds s)
-      go (after s c) = inr (holds s)
+      go (as-before s) = inl (holds s)
+      go (changed-already s c) = inr (holds s)

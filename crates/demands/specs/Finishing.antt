@@ -13,7 +13,7 @@ use lib.Seq.{take-at, take-append-le}
 use lib.Dec.{eqb}
 use borrow.Author.Tests.{not-false, eq-eqb, ne-eqb}
 use Rattle.flash.specs.Stores.{blank, Words, none, more, Store, apply, made, madeFirst}
-use Rattle.flash.specs.Laws.{le-or-lt, first-none, first-all}
+use Rattle.flash.specs.Laws.{made-append, le-or-lt, first-none, first-all}
 use Rattle.rules.specs.declared.Area.{Area}
 use Rattle.rules.specs.Words.{meta0, meta1, seal}
 use Rattle.rules.specs.Walk.{Kind, torn, neither, codes, items, stop, sealed, kindOf, isSound}
@@ -21,7 +21,7 @@ use Rattle.rules.specs.Areas.{R, base, page, kind, every, Recovery, free, unfin
 use Rattle.rules.specs.Lists.{erase, copyTo, finish, dropDoubles, recoverList}
 use Rattle.rules.specs.Laws.{nor-left, nor-right}
 use Rattle.demands.specs.Terms.{Fair, fair-end, Map, recovered, lastLive, keptOf, keptItems, kept, blanks, PageIs, sealed-page, torn-page, RIs, open-page, committed-page}
-use Rattle.demands.specs.Stages.{made-append, after, after-then, fair-append, Resumes, then-resumes, peels-resumes, peels-ends, peels-same, peels-fair}
+use Rattle.demands.specs.Stages.{after, after-then, fair-append, Resumes, then-resumes, peels-resumes, peels-ends, peels-same, peels-fair}
 use Rattle.demands.specs.Pages.{image-layout, torn-shape, at-blank, kind-image, image, length-image, goods-items, at-seal, stop-image, sealed-shape, words-image}
 use Rattle.demands.specs.Runs.{copied, part, meta-low, shape-of, Usable, same-or-not, words-append, words-left, words-page, page-in, length-page, Only, only-self, only-as, only-trans, only-same, Turns, turns-none, turns-as, turns-then, turns-wipe, every-true, true-every}
 use Rattle.demands.specs.Entries.{supersede-none, once-last}

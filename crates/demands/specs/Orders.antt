@@ -1,5 +1,5 @@
--- Demand 3: requests on handles that all differ, each cut, recovered and asked again any number of times, leave an area that stands with
--- all changes made; their answers are right; and their order does not matter. Assumes nothing.
+-- Demand 3: requests, each cut, recovered and asked again any number of times, leave an area that stands with all changes made, and their
+-- answers are right; on handles that all differ their order does not matter. Assumes nothing.
 use mathlib.Core.Path.{_≡_, refl, ap, ap₂, sym, _∙_, fun-ext, subst}
 use mathlib.Core.List.{List, List·Permᴰ, List·Permᴰ·nil, List·Permᴰ·cons, List·Permᴰ·swap, List·Permᴰ·trans}
 use mathlib.Core.Bool.{Bool, true, false}
@@ -18,7 +18,7 @@ use Rattle.rules.specs.Refusals.{areaQuota, list, outcomeOf}
 use Rattle.rules.specs.Lists.{Request, delete}
 use Rattle.demands.specs.Terms.{Proper, handleIn, dataIn, newWords, Map, changed, changedAll, newWordsAll, wasCut, run, Tried, untried, and-tried, Carried, uncut, CarriedAll, no-more, and-then, ProperAll, Others, AllDiffer, Fine, FineAll}
 use Rattle.demands.specs.Settled.{Stands}
-use Rattle.demands.specs.Requests.{stands-as, uncut-list, Planned, stores, absent, no-stores, not-found, Left, before, after, plans, leaves}
+use Rattle.demands.specs.Requests.{stands-as, uncut-list, Planned, stores, absent, no-stores, nothing-found, Left, as-before, changed-already, plans, leaves}
 
 -- ---- changes of maps
 -- to give none to a handle that has none changes nothing
@@ -111,24 +111,24 @@ module _ (a : Area) where
   -- and at last not cut
   left-stands : (r : Request) (m : Map) (n : ℕ) (f : List ℕ) → Proper r → n + newWords r ≤ areaQuota a → Left a r m n f → (k : ℕ) → wasCut (run a r k f .answer) ≡ false
       → Stands a (changed r m) (n + newWords r) (run a r k f .flash) × Fine r (run a r k f .answer)
-  left-stands r m n f p q (before s) k c = uncut-stands r m n f s (plans a r m n f p s q) k c
-  left-stands r m n f p q (after s (no-stores e)) k c = rw e (rw (first-nil k f, le-leb 0 k zero-le) (s, tt))
-  left-stands r m n f p q (after s (not-found e d)) k c = rw e (s, (refl, d))
+  left-stands r m n f p q (as-before s) k c = uncut-stands r m n f s (plans a r m n f p s q) k c
+  left-stands r m n f p q (changed-already s (no-stores e)) k c = rw e (rw (first-nil k f, le-leb 0 k zero-le) (s, tt))
+  left-stands r m n f p q (changed-already s (nothing-found e d)) k c = rw e (s, (refl, d))
 
   pub carried : (r : Request) (m : Map) (n : ℕ) (f : List ℕ) → Proper r → Stands a m n f → n + newWords r ≤ areaQuota a
       → (x : Answer) (g : List ℕ) → Carried a r f x g → Stands a (changed r m) (n + newWords r) g × Fine r x
-  carried r m n f p s q _ _ (uncut {g = h} k t c) = left-stands r m n h p q (tried r m n f p q (before s) h t) k c
+  carried r m n f p s q _ _ (uncut {g = h} k t c) = left-stands r m n h p q (tried r m n f p q (as-before s) h t) k c
 
   -- power enough there always is
   pub enough : (r : Request) (m : Map) (n : ℕ) (f : List ℕ) → Proper r → n + newWords r ≤ areaQuota a → Left a r m n f
       → (s : ℕ) × ((k : ℕ) → s ≤ k → wasCut (run a r k f .answer) ≡ false)
-  enough r m n f p q (before s) = go (plans a r m n f p s q)
+  enough r m n f p q (as-before s) = go (plans a r m n f p s q)
     where
       go : Planned a r m n f → (s : ℕ) × ((k : ℕ) → s ≤ k → wasCut (run a r k f .answer) ≡ false)
       go (stores ss e t) = (length ss, λ k l. rw (e, le-leb (length ss) k l))
       go (absent e d z) = (0, λ k l. rw e)
-  enough r m n f p q (after s (no-stores e)) = (0, λ k l. rw (e, le-leb 0 k l))
-  enough r m n f p q (after s (not-found e d)) = (0, λ k l. rw e)
+  enough r m n f p q (changed-already s (no-stores e)) = (0, λ k l. rw (e, le-leb 0 k l))
+  enough r m n f p q (changed-already s (nothing-found e d)) = (0, λ k l. rw e)
 
   -- several requests
   pub carried-all : (rs : List Request) (m : Map) (n : ℕ) (f : List ℕ) → ProperAll rs → Stands a m n f → n + newWordsAll rs ≤ areaQuota a

@@ -368,12 +368,12 @@ pub data Planned (a : Area) (r : Request) (m : Map) (n : ℕ) (f : List ℕ) : T
 -- asked again when its change is made, a request does nothing: no stores, or NOTFOUND for a delete
 pub data Idle (a : Area) (r : Request) (g : List ℕ) : Type 0 where
   no-stores : planOf a r g ≡ list [] → Idle a r g
-  not-found : planOf a r g ≡ refuse NotFound → r ≡ delete (handleIn r) → Idle a r g
+  nothing-found : planOf a r g ≡ refuse NotFound → r ≡ delete (handleIn r) → Idle a r g
 
 -- what a request leaves that is tried, and recovered: all as before; or the change made, and the request idle
 pub data Left (a : Area) (r : Request) (m : Map) (n : ℕ) (g : List ℕ) : Type 0 where
-  before : Stands a m n g → Left a r m n g
-  after : Stands a (changed r m) (n + newWords r) g → Idle a r g → Left a r m n g
+  as-before : Stands a m n g → Left a r m n g
+  changed-already : Stands a (changed r m) (n + newWords r) g → Idle a r g → Left a r m n g
 
 module _ (a : Area) where
   pub plans : (r : Request) (m : Map) (n : ℕ) (f : List ℕ) → Proper r → Stands a m n f → n + newWords r ≤ areaQuota a → Planned a r m n f
@@ -399,7 +399,7 @@ module _ (a : Area) where
       write-planned t h d p (room-held a g h d e) ∙ rw e
 
   gone : (h : ℕ) (m : Map) {n : ℕ} (g : List ℕ) → Stands a (changed (delete h) m) n g → Planned a (delete h) (changed (delete h) m) n g → Idle a (delete h) g
-  gone h m g s (absent e d z) = not-found e d
+  gone h m g s (absent e d z) = nothing-found e d
   gone h m g s (stores ss e t) =
       let w = delete-list a g h ss e in
       let x : dataOf (find h (entries a g)) ≡ none = stands-look s h ∙ rw (eq-eqb h h refl) in
@@ -420,15 +420,15 @@ module _ (a : Area) where
 
   idle-flash : (r : Request) (k : ℕ) (g : List ℕ) → Idle a r g → run a r k g .flash ≡ g
   idle-flash r k g (no-stores e) = rw e (first-nil k g)
-  idle-flash r k g (not-found e d) = rw e
+  idle-flash r k g (nothing-found e d) = rw e
 
   -- one more try
   pub leaves : (r : Request) (m : Map) (n : ℕ) (f : List ℕ) → Proper r → n + newWords r ≤ areaQuota a → Left a r m n f → (k : ℕ) (g : List ℕ) → Recovers a (run a r k f .flash) g → Left a r m n g
-  leaves r m n f p q (before s) k g t =
+  leaves r m n f p q (as-before s) k g t =
       let c = run-safe s r (proper-change r p) k in
       let w = recovers-ends (c .undamaged) t in
-      ⊎-elim (λ x. before (rw w x)) (λ x. let y : Stands a (changed r m) (n + newWords r) g = rw w x in after y (idle r m n g p q y)) (c .ends)
-  leaves r m n f p q (after s i) k g t =
+      ⊎-elim (λ x. as-before (rw w x)) (λ x. let y : Stands a (changed r m) (n + newWords r) g = rw w x in changed-already y (idle r m n g p q y)) (c .ends)
+  leaves r m n f p q (changed-already s i) k g t =
       let t′ = subst (λ (u : List ℕ). Recovers a u g) (idle-flash r k f i) t in
       let w : g ≡ f = recovers-ends (stands-undamaged s) t′ ∙ stands-recovered a f s in
-      rw w (after s i)
+      rw w (changed-already s i)

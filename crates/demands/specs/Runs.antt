@@ -14,7 +14,7 @@ use lib.Bits.{bitAnd, and-mask, and-comm}
 use lib.Dec.{leb, eqb}
 use borrow.Author.Tests.{leb-true, le-leb, eq-eqb, eqb-true, not-false}
 use Rattle.flash.specs.Stores.{blank, Words, none, more, Store, put, stored, wiped, made, puts}
-use Rattle.flash.specs.Laws.{le-or-lt}
+use Rattle.flash.specs.Laws.{made-append, le-or-lt}
 use Rattle.rules.specs.declared.Area.{Area}
 use Rattle.rules.specs.declared.PageSize.{PageSize}
 use Rattle.rules.specs.declared.PageSize.the-variants.{Small, Medium, Large}
@@ -25,7 +25,7 @@ use Rattle.rules.specs.Refusals.{isListed, wrongGeometry}
 use Rattle.rules.specs.Lists.{erase, copyTo}
 use Rattle.rules.specs.Laws.{and-left, and-right, nor-left, nor-right, size-words}
 use Rattle.demands.specs.Terms.{Given, Fair, fair-end, fair-put, fair-wipe, blanks}
-use Rattle.demands.specs.Stages.{made-append, fair-append}
+use Rattle.demands.specs.Stages.{fair-append}
 
 pub same-or-not : (i j : ℕ) → (i ≡ j) ⊎ (i ≢ j)
 same-or-not zero zero = inl refl

@@ -9,13 +9,9 @@ use native.Mathlib.Nat.{eq-or-lt-of-le}
 use lib.ListN.{length, take, drop, take-append-drop}
 use lib.Seq.{take-length, drop-length}
 use Rattle.flash.specs.Stores.{Store, apply, made, madeFirst, Step, _then_, each}
-use Rattle.flash.specs.Laws.{le-or-lt, first-none, first-all, first-then}
+use Rattle.flash.specs.Laws.{le-or-lt, made-append, first-none, first-all, first-then}
 use Rattle.rules.specs.declared.Area.{Area}
 use Rattle.demands.specs.Terms.{Fair, fair-end, fair-put, fair-wipe}
-
-pub made-append : (x y : List Store) (f : List ℕ) → made (x ++ y) f ≡ made y (made x f)
-made-append [] y f = refl
-made-append (s ∷ x) y f = made-append x y (apply s f)
 
 -- the flash after all stores of a step
 abbrev pub after : Step → List ℕ → List ℕ

@@ -25,6 +25,10 @@ le-or-lt zero b = inl zero-le
 le-or-lt (suc a) zero = inr (suc-le-suc zero-le)
 le-or-lt (suc a) (suc b) = ⊎-elim (λ p. inl (suc-le-suc p)) (λ q. inr (suc-le-suc q)) (le-or-lt a b)
 
+pub made-append : (x y : List Store) (f : List ℕ) → made (x ++ y) f ≡ made y (made x f)
+made-append [] y f = refl
+made-append (s ∷ x) y f = made-append x y (apply s f)
+
 -- ---- the first k stores
 pub first-none : (ss : List Store) (f : List ℕ) → madeFirst 0 ss f ≡ f
 unfolding madeFirst
