@@ -72,10 +72,10 @@ module _ {a : Area} {m : Map} {n : ℕ} {f : List ℕ} (s : Stands a m n f) (i :
   fits : (j : ℕ) → j ≤ a .pages → base a (suc j) ≤ length f
   fits j l = page-in (shape-of (s .given)) j l
 
-  pub kept-good : Goods kept
+  kept-good : Goods kept
   kept-good = goods-live (goods-items (page a f i))
 
-  pub kept-fits : a .words ≡ length (codes kept) + (room + 3)
+  kept-fits : a .words ≡ length (codes kept) + (room + 3)
   kept-fits =
       let p = settled-page settled i h in
       let l = sym (length-page a f i (fits i (omega arith))) ∙ ap length (p .1) ∙ length-image (a .pages) i (items (page a f i)) (seal ∷ blanks (p .0)) in
@@ -148,7 +148,7 @@ module _ {a : Area} {m : Map} {n : ℕ} {f : List ℕ} (s : Stands a m n f) (i :
   pub compact-fair : Fair a (compact a i f) f
   compact-fair = rw compact-is (fair-append (filled-r .0) (finish-fair a full full-undamaged))
 
-  pub packed-only : Only a f packed i goal
+  packed-only : Only a f packed i goal
   packed-only =
       let r = restored a full full-undamaged i full-committed in
       let o = filled-r .1 in

@@ -1,5 +1,5 @@
 -- What is claimed of the manager's crash-safety, and where it is proved. The claims are of document 01's definitions (crate `rules`); `Terms` has
--- the few words that they are stated in. Each holds for every flash f of 32-bit words and every area a of right geometry on it: N from 1
+-- the words that they are stated in. Each holds for every flash f of 32-bit words and every area a of right geometry on it: N from 1
 -- to 255, the three page sizes. Assumes nothing.
 use mathlib.Core.Path.{_≡_, refl, ap, sym, _∙_}
 use mathlib.Core.Logic.{⊎-elim, _⊎_, inl, inr, _≢_}
@@ -49,8 +49,8 @@ module _ {a : Area} {f : List ℕ} (given : Given a f) where
   undamaged : damaged a f ≡ false → Undamaged a f
   undamaged d = record { given = fit; sound = d }
 
-  holds : {g : List ℕ} {m : Map} {n : ℕ} → Stands a m n g → Holds a g m
-  holds s = record { given = given-of (s .given); ready = s .ready; map = s .map }
+  so-holds : {g : List ℕ} {m : Map} {n : ℕ} → Stands a m n g → Holds a g m
+  so-holds s = record { given = given-of (s .given); ready = s .ready; map = s .map }
 
   changed-by : (r : Request) → Change r → (ss : List Store) → planOf a r f ≡ list ss
       → Changes a (mapOf a f) (liveWords (entries a f)) (changed r (mapOf a f)) (liveWords (entries a f) + newWords r) f ss
@@ -145,12 +145,12 @@ module _ {a : Area} {f : List ℕ} (given : Given a f) where
       go none c = absurd (compact-exists a f l (shape-of fit) h q c)
       go (some i) c =
           let p = compact-page a f l i c in
-          (i, p .0, refl, packed-room (stands r) i (p .0) l (p .1), holds (packed-stands (stands r) i (p .0)))
+          (i, p .0, refl, packed-room (stands r) i (p .0) l (p .1), so-holds (packed-stands (stands r) i (p .0)))
 
   -- ---- 4. What is written reads back, and nothing else changes. Live words grow by no more than the new ones, and a delete is refused by
   -- NOTFOUND only for what the map has not.
   pub whole-change : (r : Request) → Change r → (ss : List Store) → planOf a r f ≡ list ss → Holds a (made ss f) (changed r (mapOf a f))
-  whole-change r c ss e = holds (changed-by r c ss e .stands)
+  whole-change r c ss e = so-holds (changed-by r c ss e .stands)
 
   pub live-words : (r : Request) → Change r → (ss : List Store) → planOf a r f ≡ list ss → liveWords (entries a (made ss f)) ≤ liveWords (entries a f) + newWords r
   live-words r c ss e = changed-by r c ss e .stands .live
@@ -259,19 +259,19 @@ module _ {a : Area} {f : List ℕ} (given : Given a f) where
   before-or-after e r c k g t =
       let w = run-safe (stands e) r c k in
       let q = recovers-ends (w .undamaged) t in
-      ⊎-elim (λ x. inl (rw q (holds x))) (λ x. inr (rw q (holds x))) (w .ends)
+      ⊎-elim (λ x. inl (rw q (so-holds x))) (λ x. inr (rw q (so-holds x))) (w .ends)
 
   -- ---- 7. Demand 3. Requests of legal handle and length, their new words and all live ones within the quota, each carried through with any
   -- cuts: the area is ready, the map is the starting one with all changes made, and each answers DONE, or NOTFOUND for a delete.
   pub all-made : ready a f ≡ true → (rs : List Request) → ProperAll rs → WithinQuota a (liveWords (entries a f) + newWordsAll rs)
       → (xs : List Answer) (g : List ℕ) → CarriedAll a rs f xs g → Holds a g (changedAll rs (mapOf a f)) × FineAll rs xs
-  all-made e rs p q xs g c = let w = carried-all a rs (mapOf a f) (liveWords (entries a f)) f p (stands e) q xs g c in (holds (w .0), w .1)
+  all-made e rs p q xs g c = let w = carried-all a rs (mapOf a f) (liveWords (entries a f)) f p (stands e) q xs g c in (so-holds (w .0), w .1)
 
   -- On handles that all differ the map is the same in any order.
   pub any-order : ready a f ≡ true → (rs qs : List Request) → List·Permᴰ rs qs → ProperAll rs → AllDiffer rs
       → WithinQuota a (liveWords (entries a f) + newWordsAll rs) → (xs : List Answer) (g : List ℕ) → CarriedAll a qs f xs g
       → Holds a g (changedAll rs (mapOf a f)) × FineAll qs xs
-  any-order e rs qs t p o q xs g c = let w = reordered a rs qs t (mapOf a f) (liveWords (entries a f)) f p o (stands e) q xs g c in (holds (w .0), w .1)
+  any-order e rs qs t p o q xs g c = let w = reordered a rs qs t (mapOf a f) (liveWords (entries a f)) f p o (stands e) q xs g c in (so-holds (w .0), w .1)
 
   -- Of two requests: both orders end in the same map, the starting one with both changes made.
   pub either-order : ready a f ≡ true → (r q : Request) → Proper r → Proper q → handleIn r ≢ handleIn q
@@ -298,5 +298,5 @@ module _ {a : Area} {f : List ℕ} (given : Given a f) where
       (go l, enough a r (changedAll rs (mapOf a f)) n h o q l)
     where
       go : {m : Map} {n : ℕ} → Left a r m n h → Holds a h m ⊎ Holds a h (changed r m)
-      go (as-before s) = inl (holds s)
-      go (changed-already s c) = inr (holds s)
+      go (as-before s) = inl (so-holds s)
+      go (changed-already s c) = inr (so-holds s)

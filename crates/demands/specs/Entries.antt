@@ -32,7 +32,7 @@ untrue true h = absurd (h refl)
 untrue false h = refl
 
 -- ---- one entry
-pub live-handle : (h : ℕ) (e : Entry) → liveOf h e ≡ true → (isLive h ≡ true) × (e .handle ≡ h)
+live-handle : (h : ℕ) (e : Entry) → liveOf h e ≡ true → (isLive h ≡ true) × (e .handle ≡ h)
 live-handle h e q = (and-left (isLive h) _ q, eqb-true (e .handle) h (and-right (isLive h) _ q))
 
 pub live-mine : (h : ℕ) (e : Entry) → isLive h ≡ true → e .handle ≡ h → liveOf h e ≡ true
@@ -60,7 +60,7 @@ pub any-skip : (t : Entry → Bool) (x : List Entry) (e : Entry) (y : List Entry
 any-skip t [] e y q = rw q
 any-skip t (c ∷ x) e y q = rw (any-skip t x e y q)
 
-pub first-skip : (t : Entry → Bool) (x : List Entry) (e : Entry) (y : List Entry) → t e ≡ false → firstOf t (x ++ e ∷ y) ≡ firstOf t (x ++ y)
+first-skip : (t : Entry → Bool) (x : List Entry) (e : Entry) (y : List Entry) → t e ≡ false → firstOf t (x ++ e ∷ y) ≡ firstOf t (x ++ y)
 first-skip t [] e y q = rw q
 first-skip t (c ∷ x) e y q = rw (first-skip t x e y q)
 
@@ -126,7 +126,7 @@ find-none h (c ∷ x) q = go (liveOf h c) refl q (find-none h x)
     go true r q ih = absurd (let z : _≡_ {A = ℕ} 0 1 = cc in omega arith)
     go false r q ih = rw r (ih q)
 
-pub none-find : (h : ℕ) (x : List Entry) → anyOf (liveOf h) x ≡ false → find h x ≡ none
+none-find : (h : ℕ) (x : List Entry) → anyOf (liveOf h) x ≡ false → find h x ≡ none
 none-find h [] q = refl
 none-find h (c ∷ x) q = rw (nor-left (liveOf h c) _ q) (none-find h x (nor-right (liveOf h c) _ q))
 

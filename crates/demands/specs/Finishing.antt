@@ -51,7 +51,7 @@ undamaged-by a f d h = rw (d, true-every (λ i. names (recovery a f) i || isSoun
 pub mended-undamaged : {a : Area} {j : ℕ} {f : List ℕ} → Mended a j f → Undamaged a f
 mended-undamaged m = record { given = m .given; sound = mended-sound m }
 
-pub finish-rests : {a : Area} {j : ℕ} {f : List ℕ} → Mended a j f → finish a f ≡ []
+finish-rests : {a : Area} {j : ℕ} {f : List ℕ} → Mended a j f → finish a f ≡ []
 finish-rests m = rw (mended-free m)
 
 -- R made blank, and the pages sound

@@ -23,7 +23,7 @@ placed-append at (e ∷ es) fs =
     rw (placed-append (at + entryLength (e .words)) es fs, z)
 
 -- ---- page by page
-pub from-same : (a : Area) (f g : List ℕ) (n i : ℕ) → ((j : ℕ) → i ≤ j → j < i + n → page a g j ≡ page a f j) → entriesFrom a g n i ≡ entriesFrom a f n i
+from-same : (a : Area) (f g : List ℕ) (n i : ℕ) → ((j : ℕ) → i ≤ j → j < i + n → page a g j ≡ page a f j) → entriesFrom a g n i ≡ entriesFrom a f n i
 from-same a f g zero i h = refl
 from-same a f g (suc n) i h =
     rw (h i (omega arith) (omega arith), from-same a f g n (suc i) (λ j lo hi. h j (omega arith) (omega arith)))

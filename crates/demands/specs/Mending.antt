@@ -62,11 +62,11 @@ module _ {a : Area} {j l : ℕ} {f g : List ℕ} {i : ℕ} {x : List ℕ} (m : M
       laid-split a (keptItems a g) i h ∙ rw (u, v)
 
   -- the same entries of the page
-  pub same-keeps : keptItems a g i ≡ keptItems a f i → Keeps a f g
+  same-keeps : keptItems a g i ≡ keptItems a f i → Keeps a f g
   same-keeps e u = let k : kept a g ≡ kept a f = kept-new ∙ ap (λ (es : List Item). up ++ (placed (base a i + 2) es ++ down)) e ∙ sym kept-old in ap (lastLive u) k
 
   -- and an invalidated one more behind them
-  pub more-keeps : (es : List Item) (y : Item) → isLive (y .handle) ≡ false → keptItems a f i ≡ es → keptItems a g i ≡ es ++ (y ∷ []) → Keeps a f g
+  more-keeps : (es : List Item) (y : Item) → isLive (y .handle) ≡ false → keptItems a f i ≡ es → keptItems a g i ≡ es ++ (y ∷ []) → Keeps a f g
   more-keeps es y q e c u =
       let at = base a i + 2 in
       let z = entryAt (base a i + 2 + length (codes es)) y in
@@ -109,7 +109,7 @@ module _ (a : Area) (i : ℕ) (h : i < a .pages) where
   abbrev toMend : List Item → List Store
   toMend es = bareIfLive (lastOf (placed (base a i + 2) es)) ++ put (base a i + (2 + length (codes es))) seal ∷ []
 
-  pub mend-torn : (f : List ℕ) (es : List Item) (m : ℕ) → Goods es → page a f i ≡ image (a .pages) i es (blank ∷ blanks m) → mend a i f ≡ toMend es
+  mend-torn : (f : List ℕ) (es : List Item) (m : ℕ) → Goods es → page a f i ≡ image (a .pages) i es (blank ∷ blanks m) → mend a i f ≡ toMend es
   mend-torn f es m gs e =
       let k : kind a f i ≡ torn = rw e (kind-image at-blank (a .pages) i m es gs) in
       rw (k, e, stop-image at-blank (a .pages) i m es gs, items-image at-blank (a .pages) i m es gs)

@@ -68,7 +68,7 @@ perm-words (List·Permᴰ·swap e d) =
 perm-words (List·Permᴰ·trans p q) = perm-words p ∙ perm-words q
 
 -- on handles that all differ the order does not matter to the map
-pub all-changes : (rs qs : List Request) → List·Permᴰ rs qs → AllDiffer rs → (m : Map) (u : ℕ) → changedAll rs m u ≡ changedAll qs m u
+all-changes : (rs qs : List Request) → List·Permᴰ rs qs → AllDiffer rs → (m : Map) (u : ℕ) → changedAll rs m u ≡ changedAll qs m u
 all-changes _ _ List·Permᴰ·nil o m u = refl
 all-changes _ _ (List·Permᴰ·cons {a = a} {l₁ = l₁} {l₂ = l₂} e p) o m u =
     all-changes l₁ l₂ p (o .1) (changed a m) u ∙ ap (λ (r : Request). changedAll l₂ (changed r m) u) e
@@ -115,7 +115,7 @@ module _ (a : Area) where
   left-stands r m n f p q (changed-already s (no-stores e)) k c = rw e (rw (first-nil k f, le-leb 0 k zero-le) (s, tt))
   left-stands r m n f p q (changed-already s (nothing-found e d)) k c = rw e (s, (refl, d))
 
-  pub carried : (r : Request) (m : Map) (n : ℕ) (f : List ℕ) → Proper r → Stands a m n f → n + newWords r ≤ areaQuota a
+  carried : (r : Request) (m : Map) (n : ℕ) (f : List ℕ) → Proper r → Stands a m n f → n + newWords r ≤ areaQuota a
       → (x : Answer) (g : List ℕ) → Carried a r f x g → Stands a (changed r m) (n + newWords r) g × Fine r x
   carried r m n f p s q _ _ (uncut {g = h} k t c) = left-stands r m n h p q (tried r m n f p q (as-before s) h t) k c
 

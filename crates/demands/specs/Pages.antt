@@ -136,7 +136,7 @@ walk-codes (good-item {e} {es} g gs) t h =
     rw (append-assoc (e .words) (codes es) t) (walk-front e (codes es ++ t) g (omega arith) ∙ ap (found e) (walk-codes gs t h))
 
 -- ---- every list of words is so written
-pub codes-walk : (k : ℕ) (ws : List ℕ) → codes (walkIn k ws .items) ++ walkIn k ws .rest ≡ drop k ws
+codes-walk : (k : ℕ) (ws : List ℕ) → codes (walkIn k ws .items) ++ walkIn k ws .rest ≡ drop k ws
 codes-walk zero [] = refl
 codes-walk (suc k) [] = refl
 codes-walk (suc k) (w ∷ ws) = codes-walk k ws

@@ -80,7 +80,7 @@ module _ (a : Area) (f : List ℕ) (pre : List Entry) (e : Entry) (suf : List En
   place-some : 0 < e .place
   place-some = let p = found .place in omega arith
 
-pub stands : {a : Area} {f : List ℕ} → Settled a f → (pre : List Entry) (e : Entry) (suf : List Entry) → entries a f ≡ pre ++ e ∷ suf
+stands : {a : Area} {f : List ℕ} → Settled a f → (pre : List Entry) (e : Entry) (suf : List Entry) → entries a f ≡ pre ++ e ∷ suf
     → StandsAt f (e .place) (e .handle) (e .words)
 stands {a} {f} s pre e suf q =
     let n = found a f pre e suf q in

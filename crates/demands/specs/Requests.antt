@@ -40,7 +40,7 @@ pub record Changes (a : Area) (m : Map) (n : ℕ) (m′ : Map) (n′ : ℕ) (f :
 pub stands-as : {a : Area} {m m′ : Map} {n n′ : ℕ} {f : List ℕ} → ((u : ℕ) → m u ≡ m′ u) → n ≤ n′ → Stands a m n f → Stands a m′ n′ f
 stands-as e l s = let k = s .live in record { given = s .given; ready = s .ready; map = λ u. s .map u ∙ e u; live = omega arith }
 
-pub stands-undamaged : {a : Area} {m : Map} {n : ℕ} {f : List ℕ} → Stands a m n f → Undamaged a f
+stands-undamaged : {a : Area} {m : Map} {n : ℕ} {f : List ℕ} → Stands a m n f → Undamaged a f
 stands-undamaged s = mended-undamaged (stands-settled s .0)
 
 -- a flash from before, and one from after
@@ -176,7 +176,7 @@ module _ {a : Area} {m : Map} {n : ℕ} {f : List ℕ} (s : Stands a m n f) (h :
       t : Stands a m′ n′ f
       t = stands-as same (omega arith) s
 
-  pub write-changes : noRoom a f h d ≡ false → Changes a m n m′ n′ f (writeList a h d f)
+  write-changes : noRoom a f h d ≡ false → Changes a m n m′ n′ f (writeList a h d f)
   write-changes q = go (holds a f h d) refl
     where
       by-compaction : holds a f h d ≡ false → (o : Option ℕ) → compactPage a f (entryLength d) ≡ o → Changes a m n m′ n′ f (appendCompacted a h d o f)

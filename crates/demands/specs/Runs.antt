@@ -33,7 +33,7 @@ same-or-not zero (suc j) = inr (λ e. omega arith)
 same-or-not (suc i) zero = inr (λ e. omega arith)
 same-or-not (suc i) (suc j) = ⊎-elim (λ e. inl (ap suc e)) (λ n. inr (λ e. n (omega arith))) (same-or-not i j)
 
-pub over-blank : (w : ℕ) → w ≤ blank → bitAnd blank w ≡ w
+over-blank : (w : ℕ) → w ≤ blank → bitAnd blank w ≡ w
 over-blank w h = let k : w < 2 ^ 32 = omega arith in and-comm blank w ∙ and-mask w 32 ∙ mod-eq-of-lt k
 
 pub meta-low : (n i : ℕ) → i < n → n ≤ 255 → meta1 n i < blank
@@ -56,7 +56,7 @@ words-take zero q = none
 words-take (suc k) none = none
 words-take (suc k) (more b bs) = more b (words-take k bs)
 
-pub words-drop : (k : ℕ) {ws : List ℕ} → Words ws → Words (drop k ws)
+words-drop : (k : ℕ) {ws : List ℕ} → Words ws → Words (drop k ws)
 words-drop zero q = q
 words-drop (suc k) none = none
 words-drop (suc k) (more b bs) = words-drop k bs
@@ -82,11 +82,11 @@ pub base-suc : (a : Area) (i : ℕ) → base a (suc i) ≡ base a i + a .words
 unfolding base
 base-suc a i = suc-mul i (a .words)
 
-pub base-zero : (a : Area) → base a 0 ≡ 0
+base-zero : (a : Area) → base a 0 ≡ 0
 unfolding base
 base-zero a = zero-mul (a .words)
 
-pub base-le : (a : Area) (i j : ℕ) → i ≤ j → base a i ≤ base a j
+base-le : (a : Area) (i j : ℕ) → i ≤ j → base a i ≤ base a j
 unfolding base
 base-le a i j h = mul-le-mul-right (a .words) h
 
@@ -94,7 +94,7 @@ pub length-page : (a : Area) (g : List ℕ) (i : ℕ) → base a (suc i) ≤ len
 unfolding page
 length-page a g i h = let s = base-suc a i in simp (length-take, length-drop) (omega arith)
 
-pub page-word : (a : Area) (f : List ℕ) (i at : ℕ) → at < a .words → getD f (base a i + at) 0 ≡ getD (page a f i) at 0
+page-word : (a : Area) (f : List ℕ) (i at : ℕ) → at < a .words → getD f (base a i + at) 0 ≡ getD (page a f i) at 0
 unfolding page
 page-word a f i at h = sym (getD-take (a .words) (drop (base a i) f) at 0 h ∙ getD-drop (base a i) f at 0)
 
@@ -193,11 +193,11 @@ same-front a f g (suc k) h =
     rw (base-suc a k, take-add (base a k) (a .words) f, take-add (base a k) (a .words) g, h k (omega arith))
     (ap (λ (x : List ℕ). x ++ take (a .words) (drop (base a k) g)) (same-front a f g k (λ j b. h j (omega arith))))
 
-pub same-run : (a : Area) (f g : List ℕ) (k : ℕ) → length f ≡ base a k → length g ≡ base a k
+same-run : (a : Area) (f g : List ℕ) (k : ℕ) → length f ≡ base a k → length g ≡ base a k
     → ((j : ℕ) → j < k → page a f j ≡ page a g j) → f ≡ g
 same-run a f g k lf lg h = sym (take-all (base a k) f (omega arith)) ∙ same-front a f g k h ∙ take-all (base a k) g (omega arith)
 
-pub same-pages : {a : Area} {f g : List ℕ} → Right a f → length g ≡ length f
+same-pages : {a : Area} {f g : List ℕ} → Right a f → length g ≡ length f
     → ((j : ℕ) → j ≤ a .pages → page a g j ≡ page a f j) → g ≡ f
 same-pages {a} {f} {g} r l h = same-run a g f (suc (a .pages)) (l ∙ r .long) (r .long) (λ j b. h j (omega arith))
 

@@ -33,7 +33,7 @@ unfolding madeFirst
 given-first k ss g = given-made (take k ss) g
 
 -- ---- R
-pub blank-free : (n p : ℕ) → recoveryOf n (blanks p) ≡ free
+blank-free : (n p : ℕ) → recoveryOf n (blanks p) ≡ free
 unfolding recoveryOf
 blank-free n p = rw (blank-all p)
 

@@ -157,7 +157,7 @@ module _ {a : Area} {S : List ℕ → List ℕ → Type 0} (t : ℕ → Step) (I
       (b .0, ap (λ (u : List Store). u ++ each t n (suc i) (made u f)) (b .1) ∙ r .1)
 
 -- steps with nothing to do, and all but one with nothing to do
-pub each-none : (t : ℕ → Step) (n j : ℕ) (f : List ℕ) → ((l : ℕ) → j ≤ l → l < j + n → t l f ≡ []) → each t n j f ≡ []
+each-none : (t : ℕ → Step) (n j : ℕ) (f : List ℕ) → ((l : ℕ) → j ≤ l → l < j + n → t l f ≡ []) → each t n j f ≡ []
 each-none t zero j f h = refl
 each-none t (suc n) j f h = rw (h j (omega arith) (omega arith)) (each-none t n (suc j) f (λ l lo hi. h l (omega arith) (omega arith)))
 

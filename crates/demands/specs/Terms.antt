@@ -1,4 +1,4 @@
--- The few words in which the demands are stated. Definitions alone. Assumes nothing.
+-- The words in which the demands are stated. Definitions alone. Assumes nothing.
 use mathlib.Core.Path.{_≡_}
 use mathlib.Core.List.{List, [], _∷_, _++_}
 use mathlib.Core.Bool.{Bool, true, false, cond}
