@@ -130,7 +130,6 @@ module _ {a : Area} {m : Map} {n : ℕ} {f : List ℕ} (s : Stands a m n f) (i h
       let l : length (take j d) ≡ j = simp length-take (omega arith) in
       let u = front (a .pages) i es in
       let t : take (suc j) new ≡ puts at (head ∷ take j d) = take-puts (suc j) at (head ∷ (d ++ seal ∷ [])) ∙ ap (λ (x : List ℕ). puts at (head ∷ x)) (take-append-le j d (seal ∷ []) b) in
-      let z : length d - j + suc left ≡ length d - j + suc left = refl in
       let e : u ++ head ∷ (take j d ++ blanks (length d - j + suc left)) ≡ image (a .pages) i (es ++ (item h (half j) ∷ [])) (blank ∷ blanks left) =
       ap (λ (x : List ℕ). u ++ head ∷ (take j d ++ x)) (sym (replicate-append-replicate (length d - j) (suc left) blank))
       ∙ ap (λ (x : List ℕ). u ++ head ∷ x) (sym (append-assoc (take j d) (blanks (length d - j)) (blanks (suc left))))

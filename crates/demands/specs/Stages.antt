@@ -72,9 +72,6 @@ module _ {I J : List ℕ → Type 0} {s t : Step} (rs : Resumes I s) (rt : Resum
 pub record Peels (a : Area) (S : List ℕ → List ℕ → Type 0) (I : List ℕ → Type 0) (s : Step) : Type 0 where
   pub first : (f : List ℕ) → I f → (x : Store) (xs : List Store) → s f ≡ x ∷ xs → Fair a (x ∷ []) f × I (apply x f) × (s (apply x f) ≡ xs) × S f (apply x f)
 
-fair-cons : {a : Area} (x : Store) (xs : List Store) (f : List ℕ) → Fair a (x ∷ []) f → Fair a xs (apply x f) → Fair a (x ∷ xs) f
-fair-cons x xs f p q = fair-append p q
-
 module _ {a : Area} {S : List ℕ → List ℕ → Type 0} {I : List ℕ → Type 0} {s : Step} (p : Peels a S I s) where
   peel : (ss : List Store) (k : ℕ) (f : List ℕ) → I f → s f ≡ ss → I (made (take k ss) f) × (s (made (take k ss) f) ≡ drop k ss)
   peel [] zero f i e = (i, e)
@@ -110,7 +107,7 @@ module _ {a : Area} {S : List ℕ → List ℕ → Type 0} {I : List ℕ → Typ
 
   fair-from : (ss : List Store) (f : List ℕ) → I f → s f ≡ ss → Fair a ss f
   fair-from [] f i e = fair-end
-  fair-from (x ∷ xs) f i e = let q = p .first f i x xs e in fair-cons x xs f (q .0) (fair-from xs (apply x f) (q .1) (q .2))
+  fair-from (x ∷ xs) f i e = let q = p .first f i x xs e in fair-append (q .0) (fair-from xs (apply x f) (q .1) (q .2))
 
   pub peels-fair : (f : List ℕ) → I f → Fair a (s f) f
   peels-fair f i = fair-from (s f) f i refl
