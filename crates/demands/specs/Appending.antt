@@ -26,7 +26,7 @@ use Rattle.demands.specs.Entries.{zeroed, zeroed-dead, look, live-mine, 
 use Rattle.demands.specs.Layout.{entryAt, placed-append, before, behind, entries-split, entries-only}
 use Rattle.demands.specs.Settled.{given-made, Mended, Settled, Stands, stands-by, stands-settled, stands-look, mended-only, settled-page, dead-good, Invalidated, invalidate}
 use Rattle.demands.specs.Mending.{mend-last, mendAll, mend-one, settled-mends}
-use Rattle.demands.specs.Finishing.{mended-undamaged, Safe, recover-mended, recover-settled, stands-recovered}
+use Rattle.demands.specs.Finishing.{mended-undamaged, Safe, recover-mended, recover-settled, stands-recovered, safe-before, safe-after}
 
 -- what is asked: a page with the room, a handle that entries may have, and data
 pub record Fitting (a : Area) (f : List ℕ) (i h : ℕ) (d : List ℕ) : Type 0 where
@@ -345,9 +345,6 @@ module _ {a : Area} {m : Map} {n : ℕ} {f : List ℕ} (s : Stands a m n f) (i h
       go none e = new-stands e
       go (some c) e = replaced c e .stands
 
-  stands-safe : (g : List ℕ) → Stands a m′ n′ g → Safe a m n m′ n′ g
-  stands-safe g t = record { undamaged = mended-undamaged (stands-settled t .0); ends = inr (rw (stands-recovered a g t) t) }
-
   -- and any part
   pub append-cut : (k : ℕ) → Safe a m n m′ n′ (madeFirst k (append a h d i f) f)
   unfolding madeFirst
@@ -357,9 +354,9 @@ module _ {a : Area} {m : Map} {n : ℕ} {f : List ℕ} (s : Stands a m n f) (i h
       enough b = rw (first-all k new f b) (go (find h (entries a f)) refl (k - length new))
         where
           go : (c : Option Entry) → find h (entries a f) ≡ c → (j : ℕ) → Safe a m n m′ n′ (madeFirst j (bareIf c) added)
-          go none e j = rw (first-nil j added) (stands-safe added (new-stands e))
+          go none e j = rw (first-nil j added) (safe-after (new-stands e))
           go (some c) e zero = rw (first-none (bareIf (some c)) added) (replaced c e .safe)
-          go (some c) e (suc j) = rw (first-all (suc j) (bareIf (some c)) added (omega arith)) (stands-safe (done c e) (replaced c e .stands))
+          go (some c) e (suc j) = rw (first-all (suc j) (bareIf (some c)) added (omega arith)) (safe-after (replaced c e .stands))
 
       short : k < length new → Safe a m n m′ n′ (madeFirst (k - length new) (bareIf (find h (entries a f))) (madeFirst k new f))
       short b =
@@ -367,7 +364,7 @@ module _ {a : Area} {m : Map} {n : ℕ} {f : List ℕ} (s : Stands a m n f) (i h
           rw (z, first-none (bareIf (find h (entries a f))) (madeFirst k new f)) (go k b)
         where
           go : (k : ℕ) → k < length new → Safe a m n m′ n′ (madeFirst k new f)
-          go zero b = record { undamaged = mended-undamaged settled; ends = inl (rw (stands-recovered a f s) s) }
+          go zero b = safe-before s
           go (suc j) b =
               let l = length-new in
               let o = partly j (omega arith) .on f fits page-is .1 in

@@ -294,7 +294,7 @@ module _ {a : Area} {f : List ℕ} (given : Given a f) where
   after-each-cut e rs p r o q xs g h c t =
       let n = liveWords (entries a f) + newWordsAll rs in
       let w = carried-all a rs (mapOf a f) (liveWords (entries a f)) f p (stands e) (omega arith) xs g c .0 in
-      let l = tried a r (changedAll rs (mapOf a f)) n g o q (as-before w) h t in
+      let l = tried a r (changedAll rs (mapOf a f)) n g o (as-before w) h t in
       (go l, enough a r (changedAll rs (mapOf a f)) n h o q l)
     where
       go : {m : Map} {n : ℕ} → Left a r m n h → Holds a h m ⊎ Holds a h (changed r m)

@@ -14,6 +14,7 @@ use Rattle.flash.specs.Stores.{Store}
 use Rattle.rules.specs.Words.{isLive}
 use Rattle.rules.specs.Walk.{Item, entryLength, codes}
 use Rattle.rules.specs.Areas.{Entry, placed, anyOf, firstOf, liveOf, doubled, twice, find, dataOf, liveWords}
+use Rattle.rules.specs.Refusals.{isNone}
 use Rattle.rules.specs.Lists.{bare, keepLive, supersede}
 use Rattle.rules.specs.Laws.{and-left, and-right, nor-left, nor-right}
 use Rattle.demands.specs.Terms.{lastLive}
@@ -109,7 +110,11 @@ any-some t (c ∷ x) q = go (t c) refl q (any-some t x)
     go true r q ih = ([], c, x, refl, r)
     go false r q ih = let w = ih q in (c ∷ w .0, w .1, w .2, ap (λ (u : List Entry). c ∷ u) (w .3), w .4)
 
--- the data of what is found
+-- what is found, and its data
+pub found-some : (o : Option Entry) → isNone o ≡ false → (e : Entry) × (o ≡ some e)
+found-some none q = absurd (true≢false q)
+found-some (some e) q = (e, refl)
+
 pub data-some : (o : Option Entry) (d : List ℕ) → dataOf o ≡ some d → (e : Entry) × (o ≡ some e) × (e .words ≡ d)
 data-some none d q = absurd (let z : _≡_ {A = ℕ} 0 1 = cc in omega arith)
 data-some (some e) d q = (e, refl, cc)

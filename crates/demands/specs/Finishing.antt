@@ -1,7 +1,7 @@
 -- Recovery's step (a), and the whole of a recovery: cut anywhere and made anew, it ends in the very same flash, and that is a ready
 -- area. Assumes nothing.
 use mathlib.Core.Path.{_≡_, refl, ap, sym, _∙_, subst}
-use mathlib.Core.Logic.{⊎-elim, _⊎_, _≢_}
+use mathlib.Core.Logic.{⊎-elim, _⊎_, _≢_, inl, inr}
 use mathlib.Core.List.{List, [], _∷_, _++_, append-assoc}
 use mathlib.Core.Bool.{or-true, true, false, _||_, true≢false}
 use mathlib.Core.Option.{Option, some, none}
@@ -305,6 +305,16 @@ module _ (a : Area) where
   -- a ready area is recovered to itself
   pub stands-recovered : {m : Map} {n : ℕ} (f : List ℕ) → Stands a m n f → recovered a f ≡ f
   stands-recovered f s = rw (ready-rests f (s .given) (s .ready))
+
+pub stands-undamaged : {a : Area} {m : Map} {n : ℕ} {f : List ℕ} → Stands a m n f → Undamaged a f
+stands-undamaged s = mended-undamaged (stands-settled s .0)
+
+-- a flash from before, and one from after
+pub safe-before : {a : Area} {m m′ : Map} {n n′ : ℕ} {f : List ℕ} → Stands a m n f → Safe a m n m′ n′ f
+safe-before {a} {f = f} s = record { undamaged = stands-undamaged s; ends = inl (rw (stands-recovered a f s) s) }
+
+pub safe-after : {a : Area} {m m′ : Map} {n n′ : ℕ} {f : List ℕ} → Stands a m′ n′ f → Safe a m n m′ n′ f
+safe-after {a} {f = f} s = record { undamaged = stands-undamaged s; ends = inr (rw (stands-recovered a f s) s) }
 
 -- a ready flash that step (a) ends in is what the recovery ends in
 pub recovered-by : {a : Area} {m : Map} {n : ℕ} (g p : List ℕ) → after (finish a) g ≡ p → Stands a m n p → recovered a g ≡ p

@@ -104,9 +104,9 @@ module _ (a : Area) where
   uncut-stands r m n f s (absent e d z) k c = rw e (absent-stands a r m n f s d z, (refl, d))
 
   -- a request, however often it is tried
-  pub tried : (r : Request) (m : Map) (n : ℕ) (f : List ℕ) → Proper r → n + newWords r ≤ areaQuota a → Left a r m n f → (g : List ℕ) → Tried a r f g → Left a r m n g
-  tried r m n f p q l _ untried = l
-  tried r m n f p q l g (and-tried {g = h} k v t) = tried r m n h p q (leaves a r m n f p q l k h v) g t
+  pub tried : (r : Request) (m : Map) (n : ℕ) (f : List ℕ) → Proper r → Left a r m n f → (g : List ℕ) → Tried a r f g → Left a r m n g
+  tried r m n f p l _ untried = l
+  tried r m n f p l g (and-tried {g = h} k v t) = tried r m n h p (leaves a r m n f p l k h v) g t
 
   -- and at last not cut
   left-stands : (r : Request) (m : Map) (n : ℕ) (f : List ℕ) → Proper r → n + newWords r ≤ areaQuota a → Left a r m n f → (k : ℕ) → wasCut (run a r k f .answer) ≡ false
@@ -117,7 +117,7 @@ module _ (a : Area) where
 
   carried : (r : Request) (m : Map) (n : ℕ) (f : List ℕ) → Proper r → Stands a m n f → n + newWords r ≤ areaQuota a
       → (x : Answer) (g : List ℕ) → Carried a r f x g → Stands a (changed r m) (n + newWords r) g × Fine r x
-  carried r m n f p s q _ _ (uncut {g = h} k t c) = left-stands r m n h p q (tried r m n f p q (as-before s) h t) k c
+  carried r m n f p s q _ _ (uncut {g = h} k t c) = left-stands r m n h p q (tried r m n f p (as-before s) h t) k c
 
   -- power enough there always is
   pub enough : (r : Request) (m : Map) (n : ℕ) (f : List ℕ) → Proper r → n + newWords r ≤ areaQuota a → Left a r m n f

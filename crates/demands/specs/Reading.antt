@@ -26,7 +26,7 @@ use Rattle.rules.specs.Laws.{and-left, and-right, passed-checked, checked-passe
 use Rattle.demands.specs.Terms.{StandsAt, blanks, Goods}
 use Rattle.demands.specs.Pages.{image, item, goods-right, goods-head, goods-items, length-image, front, length-front, image-at}
 use Rattle.demands.specs.Runs.{shape-of, Usable, base-suc, length-page, page-in}
-use Rattle.demands.specs.Entries.{data-some, data-none, any-some, any-at, first-some, find-some, once-apart, look-add}
+use Rattle.demands.specs.Entries.{found-some, data-some, data-none, any-some, any-at, first-some, find-some, once-apart, look-add}
 use Rattle.demands.specs.Layout.{Located, located}
 use Rattle.demands.specs.Settled.{Settled, ready-settled, ready-sound, ready-passed, passed-ready, settled-page}
 
@@ -134,10 +134,6 @@ unfolding entries
 grow-entries {a} s x q = subst (λ (y : List Entry). Grow (base a 0) y (base a (0 + a .pages))) q (grow-from s (a .pages) 0 (omega arith))
 
 -- ---- the first entry that passes a test
-held : (o : Option Entry) → isNone o ≡ false → (e : Entry) × (o ≡ some e)
-held none q = absurd (true≢false q)
-held (some e) q = (e, refl)
-
 -- where places grow, no entry that passes stands before it
 first-least : (t : Entry → Bool) {lo hi : ℕ} (pre : List Entry) (e : Entry) (suf : List Entry) → Grow lo (pre ++ e ∷ suf) hi → t e ≡ true
     → (c : Entry) × (firstOf t (pre ++ e ∷ suf) ≡ some c) × (c .place ≤ e .place)
@@ -167,7 +163,7 @@ read-finds : {a : Area} {f : List ℕ} (h p n : ℕ) → Usable a f → readOf a
 read-finds {a} {f} h p n g q =
     let c = checked-passed Reading.Refused (findChecks a f h) _ (Reading.At p n) (λ m z. let y : _≡_ {A = ℕ} 0 1 = cc in omega arith) q in
     let k = c .0 .1 in
-    let e = held (find h (entries a f)) (k .1 .1 .1 .0) in
+    let e = found-some (find h (entries a f)) (k .1 .1 .1 .0) in
     let z : Reading.At (e .0 .place) (length (e .0 .words)) ≡ Reading.At p n = ap (λ (o : Option Entry). Reading.At (placeOf o) (dataLength o)) (sym (e .1)) ∙ c .1 in
     (e .0, e .1, cc, cc, passed-ready a f (k .0) (k .1 .0))
 
@@ -253,7 +249,7 @@ module _ {a : Area} {f : List ℕ} (mask pattern place : ℕ) where
       let c = checked-passed Yielded.Refused (searchChecks a f mask pattern place) _ (Yielded.At q) (λ m z. let y : _≡_ {A = ℕ} 0 1 = cc in omega arith) y in
       let k = c .0 .1 in
       let s = ready-settled g (passed-ready a f (k .0) (k .1 .0)) in
-      let o = held (next a f mask pattern place) (k .1 .1 .1 .0) in
+      let o = found-some (next a f mask pattern place) (k .1 .1 .1 .0) in
       let e = o .0 in
       let r = first-some (wanted mask pattern place) (entries a f) e (o .1) in
       let z : Yielded.At (e .place) ≡ Yielded.At q = ap (λ (u : Option Entry). Yielded.At (placeOf u)) (sym (o .1)) ∙ c .1 in

@@ -1,7 +1,7 @@
 -- Writes and deletes as they are asked for: every list of stores that a plan gives is fair, makes the change that was asked, and cut
 -- anywhere is recovered to the map from before or to the map from after; and the two facts that demand 3 follows from. Assumes nothing.
 use mathlib.Core.Path.{_≡_, refl, ap, sym, _∙_, subst}
-use mathlib.Core.Logic.{⊎-elim, inl, inr, _≢_}
+use mathlib.Core.Logic.{⊎-elim, inl, _≢_}
 use mathlib.Core.List.{List, [], _∷_, _++_}
 use mathlib.Core.Bool.{Bool, true, false, cond, not, _&&_, and-false, true≢false, false≢true}
 use mathlib.Core.Option.{Option, some, none}
@@ -24,9 +24,9 @@ use Rattle.rules.specs.Laws.{and-left, and-right, nor-left, nor-right, Passed, 
 use Rattle.demands.specs.Terms.{Fair, fair-end, appendStores, WriteStores, held, appended, compacted, Change, Proper, handleIn, newWords, Map, changed, wasCut, run, recovered, Recovers, whole, then-again}
 use Rattle.demands.specs.Stages.{after-then, fair-append}
 use Rattle.demands.specs.Runs.{Usable, shape-of}
-use Rattle.demands.specs.Entries.{data-none, zeroed, twice-skip, once-drop, look-drop, live-skip, live-at, find-some, look}
+use Rattle.demands.specs.Entries.{found-some, data-none, zeroed, twice-skip, once-drop, look-drop, live-skip, live-at, find-some, look}
 use Rattle.demands.specs.Settled.{Stands, stands-by, stands-settled, stands-look, ready-sound, ready-passed, passed-ready, invalidate}
-use Rattle.demands.specs.Finishing.{Undamaged, mended-undamaged, Safe, recover-resumes, stands-recovered}
+use Rattle.demands.specs.Finishing.{Undamaged, Safe, stands-undamaged, safe-before, safe-after, recover-resumes, stands-recovered}
 use Rattle.demands.specs.Room.{compact-length, append-length, room-page, compact-page, compact-exists}
 use Rattle.demands.specs.Compacting.{packed, packed-stands, packed-room, compact-fair, compact-cut}
 use Rattle.demands.specs.Appending.{Fitting, append-fair, append-stands, append-cut}
@@ -39,16 +39,6 @@ pub record Changes (a : Area) (m : Map) (n : ℕ) (m′ : Map) (n′ : ℕ) (f :
 
 pub stands-as : {a : Area} {m m′ : Map} {n n′ : ℕ} {f : List ℕ} → ((u : ℕ) → m u ≡ m′ u) → n ≤ n′ → Stands a m n f → Stands a m′ n′ f
 stands-as e l s = let k = s .live in record { given = s .given; ready = s .ready; map = λ u. s .map u ∙ e u; live = omega arith }
-
-stands-undamaged : {a : Area} {m : Map} {n : ℕ} {f : List ℕ} → Stands a m n f → Undamaged a f
-stands-undamaged s = mended-undamaged (stands-settled s .0)
-
--- a flash from before, and one from after
-safe-before : {a : Area} {m m′ : Map} {n n′ : ℕ} {f : List ℕ} → Stands a m n f → Safe a m n m′ n′ f
-safe-before {a} {f = f} s = record { undamaged = stands-undamaged s; ends = inl (rw (stands-recovered a f s) s) }
-
-safe-after : {a : Area} {m m′ : Map} {n n′ : ℕ} {f : List ℕ} → Stands a m′ n′ f → Safe a m n m′ n′ f
-safe-after {a} {f = f} s = record { undamaged = stands-undamaged s; ends = inr (rw (stands-recovered a f s) s) }
 
 -- ---- handles and data
 pub legal-handle : (h : ℕ) → 1 ≤ h → h ≤ 0x7EFF → badHandle h ≡ false
@@ -88,9 +78,9 @@ pub map-holds : (a : Area) (f : List ℕ) (h : ℕ) (d : List ℕ) → mapOf a f
 unfolding holds
 map-holds a f h d e = rw e (words-same d)
 
-no-room : (a : Area) (f : List ℕ) (h : ℕ) (d : List ℕ) → noRoom a f h d ≡ false → holds a f h d ≡ false → liveWords (entries a f) + entryLength d ≤ areaQuota a
+quota-left : (a : Area) (f : List ℕ) (h : ℕ) (d : List ℕ) → noRoom a f h d ≡ false → holds a f h d ≡ false → liveWords (entries a f) + entryLength d ≤ areaQuota a
 unfolding noRoom
-no-room a f h d e q = ltb-false (areaQuota a) (liveWords (entries a f) + entryLength d) (rw q at e)
+quota-left a f h d e q = ltb-false (areaQuota a) (liveWords (entries a f) + entryLength d) (rw q at e)
 
 pub room-held : (a : Area) (f : List ℕ) (h : ℕ) (d : List ℕ) → holds a f h d ≡ true → noRoom a f h d ≡ false
 unfolding noRoom
@@ -176,20 +166,35 @@ module _ {a : Area} {m : Map} {n : ℕ} {f : List ℕ} (s : Stands a m n f) (h :
       t : Stands a m′ n′ f
       t = stands-as same (omega arith) s
 
-  write-changes : noRoom a f h d ≡ false → Changes a m n m′ n′ f (writeList a h d f)
-  write-changes q = go (holds a f h d) refl
+  -- the ways that a write can go
+  data Way : List Store → Type 0 where
+    nothing-to-do : holds a f h d ≡ true → Way []
+    to-room : holds a f h d ≡ false → (i : ℕ) → roomPage a f (entryLength d) ≡ some i → Way (append a h d i f)
+    by-compaction : holds a f h d ≡ false → roomPage a f (entryLength d) ≡ none → (i : ℕ) → compactPage a f (entryLength d) ≡ some i
+        → Way ((compact a i then append a h d i) f)
+
+  way : noRoom a f h d ≡ false → Way (writeList a h d f)
+  way q = go (holds a f h d) refl
     where
-      by-compaction : holds a f h d ≡ false → (o : Option ℕ) → compactPage a f (entryLength d) ≡ o → Changes a m n m′ n′ f (appendCompacted a h d o f)
-      by-compaction z none e = let l = p .2 in absurd (compact-exists a f (entryLength d) (shape-of (s .given)) (omega arith) (no-room a f h d q z) e)
-      by-compaction z (some i) e = compact-changes i e
+      packing : holds a f h d ≡ false → roomPage a f (entryLength d) ≡ none → (o : Option ℕ) → compactPage a f (entryLength d) ≡ o → Way (appendCompacted a h d o f)
+      packing z r none e = let l = p .2 in absurd (compact-exists a f (entryLength d) (shape-of (s .given)) (omega arith) (quota-left a f h d q z) e)
+      packing z r (some i) e = by-compaction z r i e
 
-      by-append : holds a f h d ≡ false → (o : Option ℕ) → roomPage a f (entryLength d) ≡ o → Changes a m n m′ n′ f (appendTo a h d o f)
-      by-append z none e = by-compaction z (compactPage a f (entryLength d)) refl
-      by-append z (some i) e = append-changes i e
+      placing : holds a f h d ≡ false → (o : Option ℕ) → roomPage a f (entryLength d) ≡ o → Way (appendTo a h d o f)
+      placing z none e = packing z e (compactPage a f (entryLength d)) refl
+      placing z (some i) e = to-room z i e
 
-      go : (b : Bool) → holds a f h d ≡ b → Changes a m n m′ n′ f (writeList a h d f)
-      go true e = rw e (held-changes e)
-      go false e = rw e (by-append e (roomPage a f (entryLength d)) refl)
+      go : (b : Bool) → holds a f h d ≡ b → Way (writeList a h d f)
+      go true e = rw e (nothing-to-do e)
+      go false e = rw e (placing e (roomPage a f (entryLength d)) refl)
+
+  way-changes : (ss : List Store) → Way ss → Changes a m n m′ n′ f ss
+  way-changes ss (nothing-to-do e) = held-changes e
+  way-changes ss (to-room z i e) = append-changes i e
+  way-changes ss (by-compaction z r i e) = compact-changes i e
+
+  write-changes : noRoom a f h d ≡ false → Changes a m n m′ n′ f (writeList a h d f)
+  write-changes q = way-changes (writeList a h d f) (way q)
 
   -- how many stores
   old-stores : (g : List ℕ) {m₁ : Map} {n₁ : ℕ} → Stands a m₁ n₁ g → m₁ h ≡ m h → length d + 2 + length (bareIf (find h (entries a g))) ≡ appendStores a f h d
@@ -201,25 +206,17 @@ module _ {a : Area} {m : Map} {n : ℕ} {f : List ℕ} (s : Stands a m n f) (h :
       go (some x) none q = absurd (let z : _≡_ {A = ℕ} 0 1 = cc in omega arith)
       go (some x) (some y) q = omega arith
 
+  way-counts : (ss : List Store) → Way ss → WriteStores a f h d (length ss)
+  way-counts ss (nothing-to-do e) = held e
+  way-counts ss (to-room z i e) = subst (WriteStores a f h d) (sym (append-length a h d i f ∙ old-stores f s refl)) (appended z i e)
+  way-counts ss (by-compaction z r i e) =
+      let g = packed s i (inside i e) in
+      let k : length ((compact a i then append a h d i) f) ≡ 2 * liveWords (pageEntries a f i) + 8 + appendStores a f h d =
+      length-append (compact a i f) (append a h d i g) ∙ rw (compact-length a i f, append-length a h d i g, old-stores g (then-stands i e) refl) in
+      subst (WriteStores a f h d) (sym k) (compacted z r i e)
+
   pub write-counts : noRoom a f h d ≡ false → WriteStores a f h d (length (writeList a h d f))
-  write-counts q = go (holds a f h d) refl
-    where
-      compact-counts : holds a f h d ≡ false → roomPage a f (entryLength d) ≡ none → (o : Option ℕ) → compactPage a f (entryLength d) ≡ o
-          → WriteStores a f h d (length (appendCompacted a h d o f))
-      compact-counts z r none e = let l = p .2 in absurd (compact-exists a f (entryLength d) (shape-of (s .given)) (omega arith) (no-room a f h d q z) e)
-      compact-counts z r (some i) e =
-          let k : length (appendCompacted a h d (some i) f) ≡ 2 * liveWords (pageEntries a f i) + 8 + appendStores a f h d =
-          length-append (compact a i f) (append a h d i (packed s i (inside i e)))
-          ∙ rw (compact-length a i f, append-length a h d i (packed s i (inside i e)), old-stores (packed s i (inside i e)) (then-stands i e) refl) in
-          subst (WriteStores a f h d) (sym k) (compacted z r i e)
-
-      append-counts : holds a f h d ≡ false → (o : Option ℕ) → roomPage a f (entryLength d) ≡ o → WriteStores a f h d (length (appendTo a h d o f))
-      append-counts z none e = compact-counts z e (compactPage a f (entryLength d)) refl
-      append-counts z (some i) e = subst (WriteStores a f h d) (sym (append-length a h d i f ∙ old-stores f s refl)) (appended z i e)
-
-      go : (b : Bool) → holds a f h d ≡ b → WriteStores a f h d (length (writeList a h d f))
-      go true e = rw e (held e)
-      go false e = rw e (append-counts e (roomPage a f (entryLength d)) refl)
+  write-counts q = way-counts (writeList a h d f) (way q)
 
   pub write-most : (k : ℕ) → WriteStores a f h d k → k ≤ 2 * a .words + 3
   write-most k (held e) = omega arith
@@ -273,10 +270,6 @@ listed cs ss ts e =
     let l = k .1 in
     (k .0, cc)
 
-some-found : (o : Option Entry) → isNone o ≡ false → (e : Entry) × (o ≡ some e)
-some-found none e = absurd (true≢false e)
-some-found (some c) e = (c, refl)
-
 pub proper-of : (h : ℕ) (d : List ℕ) → badHandle h ≡ false → badLength d ≡ false → Words d → Proper (write h d)
 proper-of h d b l w = let k = handle-legal h b in (k .0, k .1, ltb-false 32 (length d) l, w)
 
@@ -284,7 +277,7 @@ proper-of h d b l w = let k = handle-legal h b in (k .0, k .1, ltb-false 32 (len
 pub delete-list : (a : Area) (f : List ℕ) (h : ℕ) (ss : List Store) → deletePlan a h f ≡ list ss → (e : Entry) × (find h (entries a f) ≡ some e) × (ss ≡ bare e ∷ [])
 delete-list a f h ss e =
     let k = listed (findChecks a f h) (deleteList a h f) ss e in
-    let w = some-found (find h (entries a f)) (k .0 .1 .1 .1 .1 .0) in
+    let w = found-some (find h (entries a f)) (k .0 .1 .1 .1 .1 .0) in
     (w .0, w .1, sym (k .1) ∙ ap bareIf (w .1))
 
 pub changes : {a : Area} {m : Map} {n : ℕ} {f : List ℕ} → Stands a m n f → (r : Request) → Change r → (ss : List Store) → planOf a r f ≡ list ss
@@ -398,19 +391,11 @@ module _ (a : Area) where
       let e = map-holds a g h d k in
       write-planned t h d p (room-held a g h d e) ∙ rw e
 
-  gone : (h : ℕ) (m : Map) {n : ℕ} (g : List ℕ) → Stands a (changed (delete h) m) n g → Planned a (delete h) (changed (delete h) m) n g → Idle a (delete h) g
-  gone h m g s (absent e d z) = nothing-found e d
-  gone h m g s (stores ss e t) =
-      let w = delete-list a g h ss e in
-      let x : dataOf (find h (entries a g)) ≡ none = stands-look s h ∙ rw (eq-eqb h h refl) in
-      let y : dataOf (find h (entries a g)) ≡ some (w .0 .words) = ap dataOf (w .1) in
-      absurd (let z : _≡_ {A = ℕ} 0 1 = cc in omega arith)
-
-  idle : (r : Request) (m : Map) (n : ℕ) (g : List ℕ) → Proper r → n + newWords r ≤ areaQuota a → Stands a (changed r m) (n + newWords r) g → Idle a r g
-  idle format m n g p q s = absurd p
-  idle recover m n g p q s = absurd p
-  idle (write h d) m n g p q s = no-stores (write-again h d m g p s)
-  idle (delete h) m n g p q s = gone h m g s (plans (delete h) (changed (delete h) m) (n + 0) g p s (omega arith))
+  idle : (r : Request) (m : Map) (n : ℕ) (g : List ℕ) → Proper r → Stands a (changed r m) n g → Idle a r g
+  idle format m n g p s = absurd p
+  idle recover m n g p s = absurd p
+  idle (write h d) m n g p s = no-stores (write-again h d m g p s)
+  idle (delete h) m n g p s = nothing-found (delete-refused s h p (rw (eq-eqb h h refl))) refl
 
   proper-change : (r : Request) → Proper r → Change r
   proper-change format p = absurd p
@@ -423,12 +408,12 @@ module _ (a : Area) where
   idle-flash r k g (nothing-found e d) = rw e
 
   -- one more try
-  pub leaves : (r : Request) (m : Map) (n : ℕ) (f : List ℕ) → Proper r → n + newWords r ≤ areaQuota a → Left a r m n f → (k : ℕ) (g : List ℕ) → Recovers a (run a r k f .flash) g → Left a r m n g
-  leaves r m n f p q (as-before s) k g t =
+  pub leaves : (r : Request) (m : Map) (n : ℕ) (f : List ℕ) → Proper r → Left a r m n f → (k : ℕ) (g : List ℕ) → Recovers a (run a r k f .flash) g → Left a r m n g
+  leaves r m n f p (as-before s) k g t =
       let c = run-safe s r (proper-change r p) k in
       let w = recovers-ends (c .undamaged) t in
-      ⊎-elim (λ x. as-before (rw w x)) (λ x. let y : Stands a (changed r m) (n + newWords r) g = rw w x in changed-already y (idle r m n g p q y)) (c .ends)
-  leaves r m n f p q (changed-already s i) k g t =
+      ⊎-elim (λ x. as-before (rw w x)) (λ x. let y : Stands a (changed r m) (n + newWords r) g = rw w x in changed-already y (idle r m (n + newWords r) g p y)) (c .ends)
+  leaves r m n f p (changed-already s i) k g t =
       let t′ = subst (λ (u : List ℕ). Recovers a u g) (idle-flash r k f i) t in
       let w : g ≡ f = recovers-ends (stands-undamaged s) t′ ∙ stands-recovered a f s in
       rw w (changed-already s i)

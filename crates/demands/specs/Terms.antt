@@ -194,6 +194,7 @@ written (e ∷ es) = (65536 * e .handle + (length (e .words) + 1)) ∷ (e .words
 unfoldable pub layout : ℕ → ℕ → List Item → ℕ → ℕ → List ℕ
 layout n i es w m = 0x10100408 ∷ ((0xFFFF0000 + 256 * i + n) ∷ (written es ++ w ∷ blanks m))
 
+-- a page i of n that is sealed, or torn
 pub data PageIs (n i : ℕ) (p : List ℕ) : Type 0 where
   sealed-page : (es : List Item) (m : ℕ) → Goods es → p ≡ layout n i es 0x7FFFFFFF m → PageIs n i p
   torn-page : (es : List Item) (m : ℕ) → Goods es → p ≡ layout n i es 0xFFFFFFFF m → PageIs n i p
@@ -231,9 +232,10 @@ keptOf sealed es = es
 keptOf torn es = butLast es
 keptOf neither es = es
 
--- of page i: what R holds, if R is committed and names it
+-- of page i: what R holds, if R is committed and names it; else of its own
 abbrev pub keptItems : Area → List ℕ → ℕ → List Item
 keptItems a f i = cond (names (recovery a f) i) (items (page a f (R a))) (keptOf (kind a f i) (items (page a f i)))
 
+-- of the area
 unfoldable pub kept : Area → List ℕ → List Entry
 kept a f = laid a (keptItems a f) (a .pages) 0
