@@ -18,10 +18,11 @@ use Rattle.rules.specs.Walk.{Item, entryLength, codes, items, stop}
 use Rattle.rules.specs.Areas.{base, page, Entry, placed, entries, anyOf, liveOf, doubled, twice, find, liveWords}
 use Rattle.rules.specs.Lists.{bare, bareIf, append, mend, supersede, dropDoubles, write}
 use Rattle.rules.specs.Laws.{header-over-seal}
+use Rattle.rules.specs.Places.{page-in, length-page}
 use Rattle.demands.specs.Terms.{Fair, fair-end, Map, changed, recovered, blanks, Good, Goods, no-item, good-item}
 use Rattle.demands.specs.Stages.{after, after-then, fair-append}
 use Rattle.demands.specs.Pages.{image, item, goods-append, goods-items, length-image, at-seal, at-blank, items-image, kind-image, stop-image, front, length-front, image-front, image-at}
-use Rattle.demands.specs.Runs.{shape-of, Usable, take-puts, length-puts, words-take, words-append, page-in, length-page, Only, only-trans, Turns, turns-as, turns-then, turns-put, turns-fill}
+use Rattle.demands.specs.Runs.{shape-of, Usable, take-puts, length-puts, words-take, words-append, Only, only-trans, Turns, turns-as, turns-then, turns-put, turns-fill}
 use Rattle.demands.specs.Entries.{zeroed, zeroed-dead, look, live-mine, any-skip, any-at, find-some, find-none, once-insert, twice-skip, once-drop, once-apart, look-skip, look-add, look-other, live-skip, live-at, supersede-one, split-append}
 use Rattle.demands.specs.Layout.{entryAt, placed-append, before, behind, entries-split, entries-only}
 use Rattle.demands.specs.Settled.{given-made, Mended, Settled, Stands, stands-by, stands-settled, stands-look, mended-only, settled-page, dead-good, Invalidated, invalidate}

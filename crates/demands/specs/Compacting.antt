@@ -13,14 +13,16 @@ use lib.Dec.{eqb}
 use Rattle.flash.specs.Stores.{blank, Words, none, more, Store, apply, made, madeFirst, Step, _then_}
 use Rattle.flash.specs.Laws.{le-or-lt, first-none, first-all, first-then}
 use Rattle.rules.specs.declared.Area.{Area}
+use Rattle.rules.specs.declared.Recovery.the-variants.{Free, Unfinished, Committed}
 use Rattle.rules.specs.Words.{openWords, lastSeal, meta0, meta1, isLive, seal}
 use Rattle.rules.specs.Walk.{Item, codes, items, stop, isSound}
-use Rattle.rules.specs.Areas.{R, base, page, kind, free, unfinished, committed, recovery, placed, pageEntries, entries, liveWords}
+use Rattle.rules.specs.Areas.{R, base, page, kind, recovery, placed, pageEntries, entries, liveWords}
 use Rattle.rules.specs.Lists.{erase, keepLive, liveCodes, copyTo, restore, compact, finish}
+use Rattle.rules.specs.Places.{page-in, length-page}
 use Rattle.demands.specs.Terms.{Fair, Map, recovered, blanks, Goods, no-item, good-item}
 use Rattle.demands.specs.Stages.{after, after-then, fair-append}
 use Rattle.demands.specs.Pages.{image, goods-items, length-image, at-seal, items-image, kind-image, stop-image, words-image}
-use Rattle.demands.specs.Runs.{copied, part, meta-low, shape-of, same-or-not, words-left, words-right, words-append, words-page, page-in, length-page, Only, only-self, only-as, only-trans, only-same, turns-wipe}
+use Rattle.demands.specs.Runs.{shape-of, copied, part, meta-low, same-or-not, words-left, words-right, words-append, words-page, Only, only-self, only-as, only-trans, only-same, turns-wipe}
 use Rattle.demands.specs.Entries.{look, look-kept, twice-kept, live-append, live-kept, live-same}
 use Rattle.demands.specs.Layout.{before, behind, entries-split, entries-only}
 use Rattle.demands.specs.Settled.{open-r, closed-r, given-made, free-blank, Settled, Stands, stands-by, stands-settled, stands-look, mended-only, settled-page}
@@ -110,7 +112,7 @@ module _ {a : Area} {m : Map} {n : ℕ} {f : List ℕ} (s : Stands a m n f) (i :
   abbrev full : List ℕ
   full = after toR f
 
-  full-committed : recovery a full ≡ committed i
+  full-committed : recovery a full ≡ Committed i
   full-committed = rw (filled-r .1 .here) (closed-r (a .pages) i kept room h (shape-of (s .given) .many) kept-good)
 
   -- the pages as they were
@@ -205,7 +207,7 @@ module _ {a : Area} {m : Map} {n : ℕ} {f : List ℕ} (s : Stands a m n f) (i :
     cut-only : Only a f cut (R a) y
     cut-only = cut-part .1
 
-    cut-kind : (recovery a cut ≡ free) ⊎ (recovery a cut ≡ unfinished)
+    cut-kind : (recovery a cut ≡ Free) ⊎ (recovery a cut ≡ Unfinished)
     cut-kind = rw (cut-only .here) (open-r (a .pages) y (cut-part .2))
 
     -- R blank again, the flash is the one from before
@@ -224,7 +226,7 @@ module _ {a : Area} {m : Map} {n : ℕ} {f : List ℕ} (s : Stands a m n f) (i :
     cut-finish : after (finish a) cut ≡ f
     cut-finish = ⊎-elim on-free (λ c. rw c (cleared (apply (erase a (R a)) cut) cut-erased)) cut-kind
       where
-        on-free : recovery a cut ≡ free → after (finish a) cut ≡ f
+        on-free : recovery a cut ≡ Free → after (finish a) cut ≡ f
         on-free c =
             let l = length-page a cut (R a) (rw (cut-only .long) (fits (a .pages) (omega arith))) in
             rw c (cleared cut (only-as cut-only (sym (cut-only .here) ∙ free-blank (a .pages) (page a cut (R a)) c ∙ ap blanks l)))

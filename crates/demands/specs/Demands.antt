@@ -19,15 +19,17 @@ use Rattle.rules.specs.declared.Refusal.the-variants.{NotFound, NoRoom}
 use Rattle.rules.specs.declared.Answer.{Answer}
 use Rattle.rules.specs.declared.Reading.{Reading}
 use Rattle.rules.specs.declared.Yielded.{Yielded}
+use Rattle.rules.specs.declared.Kind.the-variants.{Sealed}
+use Rattle.rules.specs.declared.Recovery.the-variants.{Committed}
 use Rattle.rules.specs.Words.{isLive, seal}
-use Rattle.rules.specs.Walk.{Item, items, stop, sealed}
-use Rattle.rules.specs.Areas.{R, page, kind, committed, recovery, Entry, pageEntries, entries, twice, find, dataOf, mapOf, liveWords, damaged, ready}
+use Rattle.rules.specs.Walk.{Item, items, stop}
+use Rattle.rules.specs.Areas.{R, page, kind, recovery, Entry, pageEntries, entries, twice, find, dataOf, mapOf, liveWords, damaged, ready}
 use Rattle.rules.specs.Refusals.{formatChecks, recoverChecks, writeChecks, findChecks, Plan, refuse, list, outcomeOf}
 use Rattle.rules.specs.Lists.{formatList, bareIf, deleteList, compact, roomPage, compactPage, writeList, recoverList, Request, format, recover, write, delete, planOf}
 use Rattle.rules.specs.Search.{readOf, badPlace, searchOf}
 use Rattle.demands.specs.Terms.{Given, Fair, WriteStores, Typed, Change, Proper, handleIn, newWords, Map, changed, changedAll, WithinQuota, newWordsAll, Holds, wasCut, run, recovered, Recovers, Tried, CarriedAll, ProperAll, AllDiffer, FineAll, blanks, Goods, written, layout, PageIs, RIs, laid, StandsAt, lastLive, kept}
 use Rattle.demands.specs.Pages.{image-layout}
-use Rattle.demands.specs.Runs.{Usable, usable, given-of, shape-of}
+use Rattle.demands.specs.Runs.{shape-of, Usable, usable, given-of}
 use Rattle.demands.specs.Entries.{data-some, once-last}
 use Rattle.demands.specs.Settled.{given-first, settled-ready, Stands, stands-settled, ready-stands, ready-sound, sealed-layout, laid-settled}
 use Rattle.demands.specs.Finishing.{Undamaged, recover-resumes, recover-fair, recover-ready, ready-rests, recovered-keeps, plain-kept, undamaged-pages-are, pages-undamaged}
@@ -244,7 +246,7 @@ module _ {a : Area} {f : List ℕ} (given : Given a f) where
   unfolding mapOf
   keeps d u = ap dataOf (recovered-keeps f (undamaged d) u)
 
-  pub loses-nothing : damaged a f ≡ false → ((i : ℕ) → recovery a f ≢ committed i) → ((i : ℕ) → i < a .pages → kind a f i ≡ sealed)
+  pub loses-nothing : damaged a f ≡ false → ((i : ℕ) → recovery a f ≢ Committed i) → ((i : ℕ) → i < a .pages → kind a f i ≡ Sealed)
       → twice (entries a f) ≡ false → (u : ℕ) → mapOf a (recovered a f) u ≡ mapOf a f u
   unfolding mapOf
   loses-nothing d c s t u = keeps d u ∙ ap dataOf (ap (lastLive u) (plain-kept a f c s) ∙ sym (once-last u (entries a f) t))

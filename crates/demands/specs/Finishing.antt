@@ -15,15 +15,20 @@ use borrow.Author.Tests.{not-false, eq-eqb, ne-eqb}
 use Rattle.flash.specs.Stores.{blank, Words, none, more, Store, apply, made, madeFirst}
 use Rattle.flash.specs.Laws.{made-append, le-or-lt, first-none, first-all}
 use Rattle.rules.specs.declared.Area.{Area}
+use Rattle.rules.specs.declared.Kind.{Kind}
+use Rattle.rules.specs.declared.Kind.the-variants.{Torn, Neither, Sealed}
+use Rattle.rules.specs.declared.Recovery.{Recovery}
+use Rattle.rules.specs.declared.Recovery.the-variants.{Free, Unfinished, Committed, Damage}
 use Rattle.rules.specs.Words.{meta0, meta1, seal}
-use Rattle.rules.specs.Walk.{Kind, torn, neither, codes, items, stop, sealed, kindOf, isSound}
-use Rattle.rules.specs.Areas.{R, base, page, kind, every, Recovery, free, unfinished, committed, damage, recovery, isDamage, names, entries, find, damaged, ready}
+use Rattle.rules.specs.Walk.{codes, items, stop, kindOf, isSound}
+use Rattle.rules.specs.Areas.{R, base, page, kind, every, recovery, isDamage, names, entries, find, damaged, ready}
 use Rattle.rules.specs.Lists.{erase, copyTo, finish, dropDoubles, recoverList}
 use Rattle.rules.specs.Laws.{nor-left, nor-right}
+use Rattle.rules.specs.Places.{page-in, length-page}
 use Rattle.demands.specs.Terms.{Fair, fair-end, Map, recovered, lastLive, keptOf, keptItems, kept, blanks, PageIs, sealed-page, torn-page, RIs, open-page, committed-page}
 use Rattle.demands.specs.Stages.{after, after-then, fair-append, Resumes, then-resumes, peels-resumes, peels-ends, peels-same, peels-fair}
 use Rattle.demands.specs.Pages.{image-layout, torn-shape, at-blank, kind-image, image, length-image, goods-items, at-seal, stop-image, sealed-shape, words-image}
-use Rattle.demands.specs.Runs.{copied, part, meta-low, shape-of, Usable, same-or-not, words-append, words-left, words-page, page-in, length-page, Only, only-self, only-as, only-trans, only-same, Turns, turns-none, turns-as, turns-then, turns-wipe, every-true, true-every}
+use Rattle.demands.specs.Runs.{shape-of, copied, part, meta-low, Usable, same-or-not, words-append, words-left, words-page, Only, only-self, only-as, only-trans, only-same, Turns, turns-none, turns-as, turns-then, turns-wipe, every-true, true-every}
 use Rattle.demands.specs.Entries.{supersede-none, once-last}
 use Rattle.demands.specs.Layout.{laid-same, from-laid}
 use Rattle.demands.specs.Settled.{committed-r, unfinished-word, open-r, closed-r, given-made, free-blank, Mended, Settled, Stands, stands-settled, mended-free, mended-sound, ready-settled}
@@ -87,7 +92,7 @@ module _ (a : Area) (f : List ℕ) (u : Undamaged a f) where
   fits : (j : ℕ) → j ≤ a .pages → base a (suc j) ≤ length f
   fits j h = page-in (shape-of (u .given)) j h
 
-  free-finished : recovery a f ≡ free → Finished a f
+  free-finished : recovery a f ≡ Free → Finished a f
   free-finished e =
       let b : page a f (a .pages) ≡ blanks (a .words) = free-blank (a .pages) (page a f (a .pages)) e ∙ ap blanks (length-page a f (a .pages) (fits (a .pages) (omega arith))) in
       let m : Mended a 0 f = blank-mended (u .given) (only-as (only-self a f (a .pages)) b) (λ i h. rw e at (undamaged-pages u i h)) in
@@ -95,7 +100,7 @@ module _ (a : Area) (f : List ℕ) (u : Undamaged a f) where
       let n : Mended a 0 (after (finish a) f) = rw r m in
       record { fair = rw r fair-end; ends = n; cut = λ k. cut-whole a f n k (rw r zero-le) }
 
-  unfinished-finished : recovery a f ≡ unfinished → Finished a f
+  unfinished-finished : recovery a f ≡ Unfinished → Finished a f
   unfinished-finished e = record { fair = rw l (o .0); ends = n; cut = go }
     where
       l : finish a f ≡ erase a (R a) ∷ []
@@ -112,7 +117,7 @@ module _ (a : Area) (f : List ℕ) (u : Undamaged a f) where
       go (suc k) = cut-whole a f n (suc k) (rw l (omega arith))
 
   -- R committed for page i
-  module _ (i : ℕ) (e : recovery a f ≡ committed i) where
+  module _ (i : ℕ) (e : recovery a f ≡ Committed i) where
     abbrev r : List ℕ
     r = page a f (R a)
 
@@ -189,7 +194,7 @@ module _ (a : Area) (f : List ℕ) (u : Undamaged a f) where
           pages l h = rw (same-r, e) (⊎-elim (λ q. rw (eq-eqb l i (sym q))) (λ n. rw (o .there l n) (rw e at (undamaged-pages u l h))) (same-or-not i l))
 
       g-list : finish a g ≡ finish a f
-      g-list = let c : recovery a g ≡ committed i = rw same-r e in rw (c, e, same-r)
+      g-list = let c : recovery a g ≡ Committed i = rw same-r e in rw (c, e, same-r)
 
       erased : apply (erase a i) g ≡ apply (erase a i) f
       erased =
@@ -262,10 +267,10 @@ module _ (a : Area) (f : List ℕ) (u : Undamaged a f) where
   finished = go (recovery a f) refl
     where
       go : (s : Recovery) → recovery a f ≡ s → Finished a f
-      go free e = free-finished e
-      go unfinished e = unfinished-finished e
-      go (committed i) e = committed-finished i e
-      go damage e = absurd (true≢false (rw e at (u .sound)))
+      go Free e = free-finished e
+      go Unfinished e = unfinished-finished e
+      go (Committed i) e = committed-finished i e
+      go Damage e = absurd (true≢false (rw e at (u .sound)))
 
 -- Recovered, the area stands with one map or with another.
 pub record Safe (a : Area) (m : Map) (n : ℕ) (m′ : Map) (n′ : ℕ) (g : List ℕ) : Type 0 where
@@ -333,13 +338,13 @@ finish-kept {a} f v = laid-same a (keptItems a (after (finish a) f)) (keptItems 
     own i = own-items (finished a f v .ends) i
 
     go : (r : Recovery) → recovery a f ≡ r → (i : ℕ) → i < a .pages → keptItems a (after (finish a) f) i ≡ keptItems a f i
-    go free e i h = let z : after (finish a) f ≡ f = rw e in ap (λ (g : List ℕ). keptItems a g i) z
-    go unfinished e i h =
+    go Free e i h = let z : after (finish a) f ≡ f = rw e in ap (λ (g : List ℕ). keptItems a g i) z
+    go Unfinished e i h =
         let l : finish a f ≡ erase a (R a) ∷ [] = rw e in
         let o = turns-wipe a (R a) (page a f (R a)) (le-refl (R a)) .on f (fits a f v (a .pages) (omega arith)) refl .1 in
         let p : page a (after (finish a) f) i ≡ page a f i = rw l (o .there i (λ q. omega arith)) in
         own i ∙ rw (p, e)
-    go (committed j) e i h = ⊎-elim named (λ d. other d) (same-or-not j i)
+    go (Committed j) e i h = ⊎-elim named (λ d. other d) (same-or-not j i)
       where
         w : Restored a f j (after (finish a) f)
         w = restored a f v j e
@@ -347,12 +352,12 @@ finish-kept {a} f v = laid-same a (keptItems a (after (finish a) f)) (keptItems 
         named : j ≡ i → keptItems a (after (finish a) f) i ≡ keptItems a f i
         named q =
             let p : page a (after (finish a) f) i ≡ page a f (R a) = subst (λ (u : ℕ). page a (after (finish a) f) u ≡ page a f (R a)) q (w .here) in
-            let k : kindOf (a .pages) i (page a f (R a)) ≡ sealed = subst (λ (u : ℕ). kindOf (a .pages) u (page a f (R a)) ≡ sealed) q (committed-r (a .pages) j (page a f (R a)) e .1) in
+            let k : kindOf (a .pages) i (page a f (R a)) ≡ Sealed = subst (λ (u : ℕ). kindOf (a .pages) u (page a f (R a)) ≡ Sealed) q (committed-r (a .pages) j (page a f (R a)) e .1) in
             own i ∙ rw (p, k, e, eq-eqb i j (sym q))
 
         other : j ≢ i → keptItems a (after (finish a) f) i ≡ keptItems a f i
         other d = own i ∙ rw (w .there i d (λ q. omega arith), e, ne-eqb i j (λ q. d (sym q)))
-    go damage e i h = absurd (true≢false (sym (ap isDamage e) ∙ undamaged-r a f v))
+    go Damage e i h = absurd (true≢false (sym (ap isDamage e) ∙ undamaged-r a f v))
 
 -- the whole recovery leaves each handle the last live entry of what is to be kept
 pub recovered-keeps : {a : Area} (f : List ℕ) → Undamaged a f → (u : ℕ) → find u (entries a (recovered a f)) ≡ lastLive u (kept a f)
@@ -367,25 +372,25 @@ recovered-keeps {a} f v u =
     ∙ ap (lastLive u) (finish-kept f v)
 
 -- with no R committed and no page torn, all entries are to be kept
-pub plain-kept : (a : Area) (f : List ℕ) → ((i : ℕ) → recovery a f ≢ committed i) → ((i : ℕ) → i < a .pages → kind a f i ≡ sealed) → kept a f ≡ entries a f
+pub plain-kept : (a : Area) (f : List ℕ) → ((i : ℕ) → recovery a f ≢ Committed i) → ((i : ℕ) → i < a .pages → kind a f i ≡ Sealed) → kept a f ≡ entries a f
 unfolding kept entries
 plain-kept a f c s =
     laid-same a (keptItems a f) (λ i. items (page a f i)) (a .pages) 0 (λ i lo hi. go (recovery a f) refl i (omega arith)) ∙ sym (from-laid a f (a .pages) 0)
   where
     go : (r : Recovery) → recovery a f ≡ r → (i : ℕ) → i < a .pages → keptItems a f i ≡ items (page a f i)
-    go free e i h = rw (e, s i h)
-    go unfinished e i h = rw (e, s i h)
-    go (committed j) e i h = absurd (c j e)
-    go damage e i h = rw (e, s i h)
+    go Free e i h = rw (e, s i h)
+    go Unfinished e i h = rw (e, s i h)
+    go (Committed j) e i h = absurd (c j e)
+    go Damage e i h = rw (e, s i h)
 
 -- ---- undamaged, in the layout's words
 sound-page : {n i : ℕ} {p : List ℕ} → 2 ≤ length p → isSound (kindOf n i p) ≡ true → PageIs n i p
 sound-page {n} {i} {p} l s = go (kindOf n i p) refl s
   where
     go : (k : Kind) → kindOf n i p ≡ k → isSound k ≡ true → PageIs n i p
-    go sealed e t = let w = sealed-shape n i p l e in sealed-page (items p) (w .0) (goods-items p) (w .1 ∙ image-layout n i (items p) seal (w .0))
-    go torn e t = let w = torn-shape n i p l e in torn-page (items p) (w .0) (goods-items p) (w .1 ∙ image-layout n i (items p) blank (w .0))
-    go neither e t = absurd (true≢false (sym t))
+    go Sealed e t = let w = sealed-shape n i p l e in sealed-page (items p) (w .0) (goods-items p) (w .1 ∙ image-layout n i (items p) seal (w .0))
+    go Torn e t = let w = torn-shape n i p l e in torn-page (items p) (w .0) (goods-items p) (w .1 ∙ image-layout n i (items p) blank (w .0))
+    go Neither e t = absurd (true≢false (sym t))
 
 page-sound : {n i : ℕ} {p : List ℕ} → PageIs n i p → isSound (kindOf n i p) ≡ true
 page-sound {n} {i} (sealed-page es m gs e) = rw (e, ← image-layout n i es seal m, kind-image at-seal n i m es gs)
@@ -399,13 +404,13 @@ undamaged-pages-are {a} {f} u = go (recovery a f) refl
     long i h = let w = shape-of (u .given) .wide in let l = length-page a f i (page-in (shape-of (u .given)) i h) in omega arith
 
     go : (r : Recovery) → recovery a f ≡ r → (o : Option ℕ) × RIs (a .pages) (page a f (R a)) o × ((i : ℕ) → i < a .pages → o ≢ some i → PageIs (a .pages) i (page a f i))
-    go free e =
+    go Free e =
         let b = free-blank (a .pages) (page a f (R a)) e in
         let l = long (R a) (le-refl (R a)) in
         let w : getD (page a f (R a)) 1 0 ≡ blank = ap (λ (r : List ℕ). getD r 1 0) b ∙ getD-replicate (length (page a f (R a))) 1 blank 0 (omega arith) in
         (none, open-page w, λ i h n. sound-page (long i (omega arith)) (rw e at (undamaged-pages u i h)))
-    go unfinished e = (none, open-page (unfinished-word (a .pages) (page a f (R a)) e), λ i h n. sound-page (long i (omega arith)) (rw e at (undamaged-pages u i h)))
-    go (committed j) e =
+    go Unfinished e = (none, open-page (unfinished-word (a .pages) (page a f (R a)) e), λ i h n. sound-page (long i (omega arith)) (rw e at (undamaged-pages u i h)))
+    go (Committed j) e =
         let c = committed-r (a .pages) j (page a f (R a)) e in
         let w = sealed-shape (a .pages) j (page a f (R a)) (long (R a) (le-refl (R a))) (c .1) in
         let es = items (page a f (R a)) in (
@@ -416,7 +421,7 @@ undamaged-pages-are {a} {f} u = go (recovery a f) refl
       where
         other : (i : ℕ) → some j ≢ some i → eqb i j || isSound (kind a f i) ≡ true → isSound (kind a f i) ≡ true
         other i n q = let z = ne-eqb i j (λ c. n (ap some (sym c))) in rw z at q
-    go damage e = absurd (true≢false (sym (ap isDamage e) ∙ undamaged-r a f u))
+    go Damage e = absurd (true≢false (sym (ap isDamage e) ∙ undamaged-r a f u))
 
 pub pages-undamaged : {a : Area} {f : List ℕ} → Usable a f → {o : Option ℕ} → RIs (a .pages) (page a f (R a)) o
     → ((i : ℕ) → i < a .pages → o ≢ some i → PageIs (a .pages) i (page a f i)) → damaged a f ≡ false
@@ -425,7 +430,7 @@ pages-undamaged {a} {f} g (open-page w) h =
     (λ c. undamaged-by a f (rw c) (λ i l. rw c (page-sound (h i l (λ e. let z : _≡_ {A = ℕ} 0 1 = cc in omega arith))))) (open-r (a .pages) (page a f (R a)) w)
 pages-undamaged {a} {f} g (committed-page {i = j} l es m gs e) h = undamaged-by a f (rw c) pages
   where
-    c : recovery a f ≡ committed j
+    c : recovery a f ≡ Committed j
     c = rw (e, ← image-layout (a .pages) j es seal m) (closed-r (a .pages) j es m l (shape-of g .many) gs)
 
     pages : (i : ℕ) → i < a .pages → names (recovery a f) i || isSound (kind a f i) ≡ true

@@ -13,10 +13,11 @@ use Rattle.rules.specs.declared.Area.{Area}
 use Rattle.rules.specs.Words.{meta0, meta1, seal}
 use Rattle.rules.specs.Areas.{R, base, page, entries, ready}
 use Rattle.rules.specs.Lists.{eraseR, formatPage, formatList}
+use Rattle.rules.specs.Places.{Right, right-at, page-in}
 use Rattle.demands.specs.Terms.{Fair, fair-end, blanks, no-item, laid}
 use Rattle.demands.specs.Stages.{fair-append}
 use Rattle.demands.specs.Pages.{image}
-use Rattle.demands.specs.Runs.{meta-low, shape-of, Usable, Right, right-at, page-in, Turns, turns-as, turns-then, turns-fill, turns-wipe}
+use Rattle.demands.specs.Runs.{shape-of, meta-low, Usable, Turns, turns-as, turns-then, turns-fill, turns-wipe}
 use Rattle.demands.specs.Settled.{given-made, Settled, settled-ready, laid-settled}
 
 -- ---- one page

@@ -11,14 +11,17 @@ use native.Mathlib.Nat.{eq-or-lt-of-le, le-of-suc-le-suc}
 use lib.ListN.{length, length-append}
 use Rattle.flash.specs.Stores.{blank, Store, put, apply, made, Step, _then_, each}
 use Rattle.rules.specs.declared.Area.{Area}
+use Rattle.rules.specs.declared.Kind.{Kind}
+use Rattle.rules.specs.declared.Kind.the-variants.{Sealed, Torn, Neither}
 use Rattle.rules.specs.Words.{isLive, seal}
-use Rattle.rules.specs.Walk.{Item, codes, items, stop, Kind, sealed, torn, neither, isSound}
+use Rattle.rules.specs.Walk.{Item, codes, items, stop, isSound}
 use Rattle.rules.specs.Areas.{base, page, kind, Entry, placed, pageEntries, entries, ready}
 use Rattle.rules.specs.Lists.{bare, lastOf, bareIfLive, mend, supersede, dropDoubles}
+use Rattle.rules.specs.Places.{page-in, length-page}
 use Rattle.demands.specs.Terms.{Fair, lastLive, butLast, keptOf, keptItems, kept, laid, blanks, Goods, no-item, good-item}
 use Rattle.demands.specs.Stages.{after, Peels, then-peels, each-peels, each-ends, each-rests, each-one}
 use Rattle.demands.specs.Pages.{image, item, goods-append, goods-left, goods-right, goods-head, goods-items, at-seal, at-blank, items-image, kind-image, stop-image, torn-shape, codes-append}
-use Rattle.demands.specs.Runs.{shape-of, page-in, length-page, Only, turns-then}
+use Rattle.demands.specs.Runs.{shape-of, Only, turns-then}
 use Rattle.demands.specs.Entries.{none-supersede, supersede-first, last-skip, last-stays, dead-never}
 use Rattle.demands.specs.Layout.{laid-same, laid-split, from-laid, entryAt, placed-append}
 use Rattle.demands.specs.Settled.{given-made, Mended, Settled, mended-free, settled-ready, mended-only, turns-bare, turns-seal, dead-good, invalidate}
@@ -111,10 +114,10 @@ module _ (a : Area) (i : ℕ) (h : i < a .pages) where
 
   mend-torn : (f : List ℕ) (es : List Item) (m : ℕ) → Goods es → page a f i ≡ image (a .pages) i es (blank ∷ blanks m) → mend a i f ≡ toMend es
   mend-torn f es m gs e =
-      let k : kind a f i ≡ torn = rw e (kind-image at-blank (a .pages) i m es gs) in
+      let k : kind a f i ≡ Torn = rw e (kind-image at-blank (a .pages) i m es gs) in
       rw (k, e, stop-image at-blank (a .pages) i m es gs, items-image at-blank (a .pages) i m es gs)
 
-  mend-sealed : (f : List ℕ) → kind a f i ≡ sealed → mend a i f ≡ []
+  mend-sealed : (f : List ℕ) → kind a f i ≡ Sealed → mend a i f ≡ []
   mend-sealed f e = rw e
 
   last-placed : (es : List Item) (x : Item) → lastOf (placed (base a i + 2) (es ++ (x ∷ []))) ≡ some (entryAt (base a i + 2 + length (codes es)) x)
@@ -196,13 +199,13 @@ module _ (a : Area) (i : ℕ) (h : i < a .pages) where
                 rw (← head-eq-of-cons-eq r′, ← tail-eq-of-cons-eq r′) (seal-first (fs ++ (y ∷ [])) n gs (dead-last fs y c) e)
 
     mend-first : (k : Kind) → kind a f i ≡ k → (x : Store) (xs : List Store) → mend a i f ≡ x ∷ xs → First j f x xs
-    mend-first sealed e x xs q = absurd (nil≢cons (sym (mend-sealed f e) ∙ q))
-    mend-first torn e x xs q =
+    mend-first Sealed e x xs q = absurd (nil≢cons (sym (mend-sealed f e) ∙ q))
+    mend-first Torn e x xs q =
         let w = shape-of (m .given) .wide in
         let l = length-page a f i fits in
         let p = torn-shape (a .pages) i (page a f i) (omega arith) e in
         torn-first (items (page a f i)) (p .0) (goods-items (page a f i)) (p .1) x xs (sym (mend-torn f (items (page a f i)) (p .0) (goods-items (page a f i)) (p .1)) ∙ q)
-    mend-first neither e x xs q = absurd (false≢true (sym (ap isSound e) ∙ m .sound i h))
+    mend-first Neither e x xs q = absurd (false≢true (sym (ap isSound e) ∙ m .sound i h))
 
   -- a live last entry is invalidated, and the page sealed
   pub mend-last : (f : List ℕ) (es : List Item) (x : Item) (n : ℕ) → base a (suc i) ≤ length f → Goods (es ++ (x ∷ [])) → isLive (x .handle) ≡ true
@@ -225,10 +228,10 @@ module _ (a : Area) (i : ℕ) (h : i < a .pages) where
   mend-on : (f : List ℕ) → Mended a i f → mend a i f ≡ [] → Mended a (suc i) f
   mend-on f m e = record { given = m .given; spare = m .spare; sound = m .sound; done = λ l b c. ⊎-elim (λ q. rw q (here (kind a f i) refl)) (λ q. m .done l b q) (eq-or-lt-of-le (le-of-suc-le-suc c)) }
     where
-      here : (k : Kind) → kind a f i ≡ k → kind a f i ≡ sealed
-      here sealed q = q
-      here torn q = absurd (snoc-some (bareIfLive (lastOf (pageEntries a f i))) (put (base a i + stop (page a f i)) seal) (rw q at e))
-      here neither q = absurd (false≢true (sym (ap isSound q) ∙ m .sound i h))
+      here : (k : Kind) → kind a f i ≡ k → kind a f i ≡ Sealed
+      here Sealed q = q
+      here Torn q = absurd (snoc-some (bareIfLive (lastOf (pageEntries a f i))) (put (base a i + stop (page a f i)) seal) (rw q at e))
+      here Neither q = absurd (false≢true (sym (ap isSound q) ∙ m .sound i h))
 
   mend-back : (f : List ℕ) → Mended a (suc i) f → Mended a i f × (mend a i f ≡ [])
   mend-back f m = (record { given = m .given; spare = m .spare; sound = m .sound; done = λ l b c. m .done l b (omega arith) }, mend-sealed f (m .done i h (omega arith)))
@@ -270,7 +273,7 @@ module _ (a : Area) where
       go (x ∷ xs) q c = absurd (nil≢cons (sym c))
 
   -- one page torn, and mended
-  pub mend-one : (i : ℕ) (f : List ℕ) (x : List ℕ) → i < a .pages → ((l : ℕ) → l < a .pages → i ≢ l → kind a f l ≡ sealed) → Only a f (after (mend a i) f) i x
+  pub mend-one : (i : ℕ) (f : List ℕ) (x : List ℕ) → i < a .pages → ((l : ℕ) → l < a .pages → i ≢ l → kind a f l ≡ Sealed) → Only a f (after (mend a i) f) i x
       → mendAll a f ≡ mend a i f
   mend-one i f x h s o =
       each-one (mend a) i (a .pages) 0 f zero-le (omega arith) (λ l b n. mend-sealed a l (omega arith) f (s l (omega arith) n))

@@ -11,8 +11,10 @@ use lib.Bits.{bitAnd, and-block, and-self, and-zero-r}
 use lib.Dec.{leb, ltb, eqb}
 use borrow.Author.Tests.{ltb-true, leb-true, eqb-true, lt-ltb, le-leb, eq-eqb}
 use Rattle.flash.specs.Stores.{blank, Words, more}
+use Rattle.rules.specs.declared.Kind.{Kind}
+use Rattle.rules.specs.declared.Kind.the-variants.{Sealed, Torn, Neither}
 use Rattle.rules.specs.Words.{longest, meta0, meta1, header, handleOf, lengthOf, special, seal}
-use Rattle.rules.specs.Walk.{Item, entryLength, codes, begins, Walked, walkIn, items, rest, stop, allBlank, Kind, sealed, torn, neither, endKind, metaRight, kindOf, isSealed}
+use Rattle.rules.specs.Walk.{Item, entryLength, codes, begins, Walked, walkIn, items, rest, stop, allBlank, endKind, metaRight, kindOf, isSealed}
 use Rattle.rules.specs.Laws.{and-left, and-right}
 use Rattle.demands.specs.Terms.{blanks, Good, Goods, no-item, good-item, written, layout}
 
@@ -173,8 +175,8 @@ goods-items p = goods-walk 0 (drop 2 p)
 -- ---- where the walk stops
 -- a seal or a blank word, and blank words behind it
 pub data End : ℕ → Kind → Type 0 where
-  at-seal : End seal sealed
-  at-blank : End blank torn
+  at-seal : End seal Sealed
+  at-blank : End blank Torn
 
 pub blank-all : (m : ℕ) → allBlank (blanks m) ≡ true
 blank-all zero = refl
@@ -225,21 +227,21 @@ module _ {w : ℕ} {k : Kind} (end : End w k) (n i m : ℕ) (es : List Item) (gs
   stop-image = rw (rest-image, length-image n i es (w ∷ blanks m)) (omega arith)
 
 -- ---- and back
-end-shape : (t : List ℕ) (k : Kind) → endKind t ≡ k → (k ≡ neither → ⊥) → (w m : ℕ) × End w k × (t ≡ w ∷ blanks m)
+end-shape : (t : List ℕ) (k : Kind) → endKind t ≡ k → (k ≡ Neither → ⊥) → (w m : ℕ) × End w k × (t ≡ w ∷ blanks m)
 end-shape [] k e h = absurd (h (sym e))
 end-shape (w ∷ ws) k e h = go (allBlank ws) (eqb w seal) (eqb w blank) refl refl refl e
   where
-    go : (x y z : Bool) → allBlank ws ≡ x → eqb w seal ≡ y → eqb w blank ≡ z → cond x (cond y sealed (cond z torn neither)) neither ≡ k
+    go : (x y z : Bool) → allBlank ws ≡ x → eqb w seal ≡ y → eqb w blank ≡ z → cond x (cond y Sealed (cond z Torn Neither)) Neither ≡ k
         → (v m : ℕ) × End v k × (_≡_ {A = List ℕ} (w ∷ ws) (v ∷ blanks m))
     go true true z p q r e = let a = eqb-true w seal q in let b = all-blank ws p in (seal, length ws, subst (End seal) e at-seal, cc)
     go true false true p q r e = let a = eqb-true w blank r in let b = all-blank ws p in (blank, length ws, subst (End blank) e at-blank, cc)
     go true false false p q r e = absurd (h (sym e))
     go false y z p q r e = absurd (h (sym e))
 
-end-seal : {w : ℕ} → End w sealed → w ≡ seal
+end-seal : {w : ℕ} → End w Sealed → w ≡ seal
 end-seal at-seal = refl
 
-end-blank : {w : ℕ} → End w torn → w ≡ blank
+end-blank : {w : ℕ} → End w Torn → w ≡ blank
 end-blank at-blank = refl
 
 two-words : (p : List ℕ) → 2 ≤ length p → p ≡ getD p 0 0 ∷ (getD p 1 0 ∷ drop 2 p)
@@ -257,28 +259,28 @@ module _ (n i : ℕ) (p : List ℕ) (l : 2 ≤ length p) where
       let d = codes-walk 0 (drop 2 p) in
       c ∙ cc
 
-  kind-shape : (k : Kind) → kindOf n i p ≡ k → (k ≡ neither → ⊥) → (w m : ℕ) × End w k × (p ≡ image n i (items p) (w ∷ blanks m))
+  kind-shape : (k : Kind) → kindOf n i p ≡ k → (k ≡ Neither → ⊥) → (w m : ℕ) × End w k × (p ≡ image n i (items p) (w ∷ blanks m))
   unfolding kindOf
   kind-shape k e h = go (metaRight n i p) refl e
     where
-      go : (b : Bool) → metaRight n i p ≡ b → cond b (endKind (rest p)) neither ≡ k → (w m : ℕ) × End w k × (p ≡ image n i (items p) (w ∷ blanks m))
+      go : (b : Bool) → metaRight n i p ≡ b → cond b (endKind (rest p)) Neither ≡ k → (w m : ℕ) × End w k × (p ≡ image n i (items p) (w ∷ blanks m))
       go true q r = let s = end-shape (rest p) k r h in (s .0, s .1, s .2, meta-shape q ∙ ap (λ (t : List ℕ). image n i (items p) t) (s .3))
       go false q r = absurd (h (sym r))
 
-  pub sealed-shape : kindOf n i p ≡ sealed → (m : ℕ) × (p ≡ image n i (items p) (seal ∷ blanks m))
+  pub sealed-shape : kindOf n i p ≡ Sealed → (m : ℕ) × (p ≡ image n i (items p) (seal ∷ blanks m))
   sealed-shape e =
-      let s = kind-shape sealed e (λ q. let z : _≡_ {A = ℕ} 0 1 = cc in omega arith) in
+      let s = kind-shape Sealed e (λ q. let z : _≡_ {A = ℕ} 0 1 = cc in omega arith) in
       (s .1, s .3 ∙ ap (λ (w : ℕ). image n i (items p) (w ∷ blanks (s .1))) (end-seal (s .2)))
 
-  pub torn-shape : kindOf n i p ≡ torn → (m : ℕ) × (p ≡ image n i (items p) (blank ∷ blanks m))
+  pub torn-shape : kindOf n i p ≡ Torn → (m : ℕ) × (p ≡ image n i (items p) (blank ∷ blanks m))
   torn-shape e =
-      let s = kind-shape torn e (λ q. let z : _≡_ {A = ℕ} 0 1 = cc in omega arith) in
+      let s = kind-shape Torn e (λ q. let z : _≡_ {A = ℕ} 0 1 = cc in omega arith) in
       (s .1, s .3 ∙ ap (λ (w : ℕ). image n i (items p) (w ∷ blanks (s .1))) (end-blank (s .2)))
 
-pub is-sealed : (k : Kind) → isSealed k ≡ true → k ≡ sealed
-is-sealed sealed e = refl
-is-sealed torn e = absurd (false≢true e)
-is-sealed neither e = absurd (false≢true e)
+pub is-sealed : (k : Kind) → isSealed k ≡ true → k ≡ Sealed
+is-sealed Sealed e = refl
+is-sealed Torn e = absurd (false≢true e)
+is-sealed Neither e = absurd (false≢true e)
 
 -- ---- entries more, and words in the middle
 pub codes-append : (es fs : List Item) → codes (es ++ fs) ≡ codes es ++ codes fs

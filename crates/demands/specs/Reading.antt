@@ -23,9 +23,10 @@ use Rattle.rules.specs.Areas.{base, page, Entry, placed, entriesFrom, entries, 
 use Rattle.rules.specs.Refusals.{badHandle, isNone, findChecks}
 use Rattle.rules.specs.Search.{placeOf, dataLength, readOf, matches, next, badPlace, searchChecks, searchOf}
 use Rattle.rules.specs.Laws.{and-left, and-right, passed-checked, checked-passed}
+use Rattle.rules.specs.Places.{base-suc, length-page, page-in}
 use Rattle.demands.specs.Terms.{StandsAt, blanks, Goods}
 use Rattle.demands.specs.Pages.{image, item, goods-right, goods-head, goods-items, length-image, front, length-front, image-at}
-use Rattle.demands.specs.Runs.{shape-of, Usable, base-suc, length-page, page-in}
+use Rattle.demands.specs.Runs.{shape-of, Usable}
 use Rattle.demands.specs.Entries.{found-some, data-some, data-none, any-some, any-at, first-some, find-some, once-apart, look-add}
 use Rattle.demands.specs.Layout.{Located, located}
 use Rattle.demands.specs.Settled.{Settled, ready-settled, ready-sound, ready-passed, passed-ready, settled-page}

@@ -23,7 +23,7 @@ use Rattle.rules.specs.Lists.{bare, bareIf, deleteList, deletePlan, compact, ro
 use Rattle.rules.specs.Laws.{and-left, and-right, nor-left, nor-right, Passed, passed-checked, checked-passed}
 use Rattle.demands.specs.Terms.{Fair, fair-end, appendStores, WriteStores, held, appended, compacted, Change, Proper, handleIn, newWords, Map, changed, wasCut, run, recovered, Recovers, whole, then-again}
 use Rattle.demands.specs.Stages.{after-then, fair-append}
-use Rattle.demands.specs.Runs.{Usable, shape-of}
+use Rattle.demands.specs.Runs.{shape-of, Usable}
 use Rattle.demands.specs.Entries.{found-some, data-none, zeroed, twice-skip, once-drop, look-drop, live-skip, live-at, find-some, look}
 use Rattle.demands.specs.Settled.{Stands, stands-by, stands-settled, stands-look, ready-sound, ready-passed, passed-ready, invalidate}
 use Rattle.demands.specs.Finishing.{Undamaged, Safe, stands-undamaged, safe-before, safe-after, recover-resumes, stands-recovered}

@@ -17,7 +17,8 @@ use Rattle.rules.specs.Walk.{items, stop}
 use Rattle.rules.specs.Areas.{base, page, pageEntries, entriesFrom, entries, find, liveWords}
 use Rattle.rules.specs.Refusals.{areaQuota}
 use Rattle.rules.specs.Lists.{bareIf, liveCodes, copyTo, compact, lowest, roomPage, compactPage, append}
-use Rattle.demands.specs.Runs.{length-puts, Right}
+use Rattle.rules.specs.Places.{Right}
+use Rattle.demands.specs.Runs.{length-puts}
 use Rattle.demands.specs.Entries.{live-append, live-kept}
 
 -- ---- how many stores

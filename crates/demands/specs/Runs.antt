@@ -2,28 +2,24 @@
 -- the rest stays as it was. Assumes nothing.
 use mathlib.Core.Path.{_≡_, refl, ap, sym, _∙_}
 use mathlib.Core.List.{List, [], _∷_, _++_, append-assoc, append-nil}
-use mathlib.Core.Bool.{Bool, true, false, not, _&&_, _||_, false≢true}
+use mathlib.Core.Bool.{Bool, true, false}
 use mathlib.Core.Logic.{_≢_, _⊎_, inl, inr, ⊎-elim}
-use Prim.Native.Nat.{ℕ, suc, zero, _+_, _-_, _*_, _^_, _≤_, _<_, suc-le-suc}
+use Prim.Native.Nat.{ℕ, suc, zero, _+_, _-_, _*_, _^_, _≤_, _<_}
 use native.Mathlib.Omega.{arith}
-use native.Mathlib.Nat.{suc-mul, zero-mul, mul-le-mul-right, mod-eq-of-lt, eq-or-lt-of-le}
-use native.Mathlib.Numerals.{add-one}
-use lib.ListN.{length, getD, take, drop, set, length-append, length-take, length-drop, length-replicate, length-set, drop-of-length-le, replicate-append-replicate}
-use lib.Seq.{take-all, take-add, take-set-le, take-set-lt, drop-set-add, drop-set-lt, getD-take, getD-drop, getD-at, set-at, sets, sets-eq, take-append-le, take-append-add}
+use native.Mathlib.Nat.{mod-eq-of-lt, eq-or-lt-of-le}
+use lib.ListN.{length, getD, take, drop, set, length-append, length-take, length-replicate, length-set, drop-of-length-le, replicate-append-replicate}
+use lib.Seq.{take-all, take-add, take-set-le, take-set-lt, drop-set-add, drop-set-lt, getD-at, set-at, sets, sets-eq, take-append-le, take-append-add}
 use lib.Bits.{bitAnd, and-mask, and-comm}
-use lib.Dec.{leb, eqb}
-use borrow.Author.Tests.{leb-true, le-leb, eq-eqb, eqb-true, not-false}
+use borrow.Author.Tests.{le-leb, eq-eqb}
 use Rattle.flash.specs.Stores.{blank, Words, none, more, Store, put, stored, wiped, made, puts}
 use Rattle.flash.specs.Laws.{made-append, le-or-lt}
 use Rattle.rules.specs.declared.Area.{Area}
-use Rattle.rules.specs.declared.PageSize.{PageSize}
-use Rattle.rules.specs.declared.PageSize.the-variants.{Small, Medium, Large}
-use Rattle.rules.specs.declared.FoundSize.{FoundSize}
-use Rattle.rules.specs.Words.{wordsOf, sizeOf, meta0, meta1}
+use Rattle.rules.specs.Words.{meta0, meta1}
 use Rattle.rules.specs.Areas.{R, base, page, every}
-use Rattle.rules.specs.Refusals.{isListed, wrongGeometry}
+use Rattle.rules.specs.Refusals.{wrongGeometry}
 use Rattle.rules.specs.Lists.{erase, copyTo}
-use Rattle.rules.specs.Laws.{and-left, and-right, nor-left, nor-right, size-words}
+use Rattle.rules.specs.Laws.{and-left, and-right}
+use Rattle.rules.specs.Places.{base-suc, base-zero, base-le, length-page, page-word, Right, size-listed, right-size, right-long, right-of, right-at}
 use Rattle.demands.specs.Terms.{Given, Fair, fair-end, fair-put, fair-wipe, blanks}
 use Rattle.demands.specs.Stages.{fair-append}
 
@@ -77,98 +73,29 @@ pub words-page : (a : Area) (f : List ℕ) (i : ℕ) → Words f → Words (page
 unfolding page
 words-page a f i q = words-take (a .words) (words-drop (base a i) q)
 
--- ---- where pages stand
-pub base-suc : (a : Area) (i : ℕ) → base a (suc i) ≡ base a i + a .words
-unfolding base
-base-suc a i = suc-mul i (a .words)
-
-base-zero : (a : Area) → base a 0 ≡ 0
-unfolding base
-base-zero a = zero-mul (a .words)
-
-base-le : (a : Area) (i j : ℕ) → i ≤ j → base a i ≤ base a j
-unfolding base
-base-le a i j h = mul-le-mul-right (a .words) h
-
-pub length-page : (a : Area) (g : List ℕ) (i : ℕ) → base a (suc i) ≤ length g → length (page a g i) ≡ a .words
-unfolding page
-length-page a g i h = let s = base-suc a i in simp (length-take, length-drop) (omega arith)
-
-page-word : (a : Area) (f : List ℕ) (i at : ℕ) → at < a .words → getD f (base a i + at) 0 ≡ getD (page a f i) at 0
-unfolding page
-page-word a f i at h = sym (getD-take (a .words) (drop (base a i) f) at 0 h ∙ getD-drop (base a i) f at 0)
-
--- ---- a right geometry
-pub record Right (a : Area) (f : List ℕ) : Type 0 where
-  pub some-pages : 1 ≤ a .pages
-  pub many : a .pages ≤ 255
-  pub wide : 64 ≤ a .words
-  pub long : length f ≡ base a (suc (a .pages))
-
--- as the rules test it
+-- ---- flash of 32-bit words and a right geometry, as the rules test it
 pub record Usable (a : Area) (f : List ℕ) : Type 0 where
   pub words : Words f
   pub right : wrongGeometry a f ≡ false
-
-sized : (P : ℕ) → (P ≡ 64) ⊎ ((P ≡ 256) ⊎ (P ≡ 1024)) → isListed (sizeOf P) ≡ true
-sized P s = ⊎-elim (λ e. rw e) (λ t. ⊎-elim (λ e. rw e) (λ e. rw e) t) s
-
-size-of : (P : ℕ) → isListed (sizeOf P) ≡ true → (P ≡ 64) ⊎ ((P ≡ 256) ⊎ (P ≡ 1024))
-size-of P e = go (sizeOf P) refl
-  where
-    one : (s : PageSize) → wordsOf s ≡ P → (P ≡ 64) ⊎ ((P ≡ 256) ⊎ (P ≡ 1024))
-    one Small q = inl (sym q)
-    one Medium q = inr (inl (sym q))
-    one Large q = inr (inr (sym q))
-
-    go : (s : FoundSize) → sizeOf P ≡ s → (P ≡ 64) ⊎ ((P ≡ 256) ⊎ (P ≡ 1024))
-    go (FoundSize.Is s) q = one s (size-words P s q)
-    go FoundSize.None q = absurd (false≢true (sym (ap isListed q) ∙ e))
 
 pub usable : {a : Area} {f : List ℕ} → Given a f → Usable a f
 unfolding wrongGeometry
 usable {a} {f} g = record {
   words = g .words;
-  right = rw (le-leb 1 (a .pages) (g .some-pages), le-leb (a .pages) 255 (g .few-pages), sized (a .words) (g .size), eq-eqb (length f) ((a .pages + 1) * a .words) (g .long));
+  right = rw (le-leb 1 (a .pages) (g .some-pages), le-leb (a .pages) 255 (g .few-pages), size-listed (a .words) (g .size), eq-eqb (length f) ((a .pages + 1) * a .words) (g .long));
 }
 
-pub given-of : {a : Area} {f : List ℕ} → Usable a f → Given a f
-unfolding wrongGeometry
-given-of {a} {f} u =
-    let lo = leb 1 (a .pages) in
-    let hi = leb (a .pages) 255 in
-    let s = isListed (sizeOf (a .words)) in
-    let l = eqb (length f) ((a .pages + 1) * a .words) in
-    let p = nor-right (not (lo && hi)) (not s || not l) (u .right) in
-    let m = not-false (lo && hi) (nor-left (not (lo && hi)) (not s || not l) (u .right)) in
-    record {
-      words = u .words;
-      some-pages = leb-true 1 (a .pages) (and-left lo hi m);
-      few-pages = leb-true (a .pages) 255 (and-right lo hi m);
-      size = size-of (a .words) (not-false s (nor-left (not s) (not l) p));
-      long = eqb-true (length f) ((a .pages + 1) * a .words) (not-false l (nor-right (not s) (not l) p));
-    }
-
 pub shape-of : {a : Area} {f : List ℕ} → Usable a f → Right a f
-unfolding base
-shape-of {a} {f} u =
-    let g = given-of u in
-    record {
-      some-pages = g .some-pages;
-      many = g .few-pages;
-      wide = ⊎-elim (λ e. omega arith) (λ t. ⊎-elim (λ e. omega arith) (λ e. omega arith) t) (g .size);
-      long = g .long ∙ ap (λ (u : ℕ). u * a .words) (add-one (a .pages));
-    }
+shape-of {a} {f} u = right-of a f (u .right)
+
+pub given-of : {a : Area} {f : List ℕ} → Usable a f → Given a f
+given-of {a} {f} u =
+    let r = shape-of u in
+    record { words = u .words; some-pages = r .some-pages; few-pages = r .many; size = right-size a f (u .right); long = right-long a f (u .right) }
 
 pub right-wrong : (a : Area) (f g : List ℕ) → wrongGeometry a f ≡ false → length g ≡ length f → wrongGeometry a g ≡ false
 unfolding wrongGeometry
 right-wrong a f g e l = rw l e
-
-pub right-at : {a : Area} {f : List ℕ} (g : List ℕ) → Right a f → length g ≡ length f → Right a g
-right-at g r l = record { some-pages = r .some-pages; many = r .many; wide = r .wide; long = l ∙ r .long }
-
-pub page-in : {a : Area} {f : List ℕ} → Right a f → (i : ℕ) → i ≤ a .pages → base a (suc i) ≤ length f
-page-in {a} r i h = rw (r .long) (base-le a (suc i) (suc (a .pages)) (suc-le-suc h))
 
 -- ---- g is f with page i turned to x
 pub record Only (a : Area) (f g : List ℕ) (i : ℕ) (x : List ℕ) : Type 0 where

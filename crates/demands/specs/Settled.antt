@@ -13,15 +13,19 @@ use borrow.Author.Tests.{not-true, not-false, eqb-true, ltb-true, lt-ltb, ne-eqb
 use Rattle.flash.specs.Stores.{blank, Store, put, apply, made, madeFirst}
 use Rattle.flash.specs.Laws.{words-made, length-made}
 use Rattle.rules.specs.declared.Area.{Area}
+use Rattle.rules.specs.declared.Kind.the-variants.{Sealed}
+use Rattle.rules.specs.declared.Recovery.{Recovery}
+use Rattle.rules.specs.declared.Recovery.the-variants.{Free, Unfinished, Committed, Damage}
 use Rattle.rules.specs.Words.{indexOf, header, seal, meta1}
-use Rattle.rules.specs.Walk.{Item, entryLength, codes, items, stop, allBlank, sealed, kindOf, isSealed, isSound}
-use Rattle.rules.specs.Areas.{R, base, page, kind, every, Recovery, free, unfinished, committed, damage, recoveryOf, recovery, isFree, Entry, entries, twice, damaged, ready, mapOf, liveWords}
+use Rattle.rules.specs.Walk.{Item, entryLength, codes, items, stop, allBlank, kindOf, isSealed, isSound}
+use Rattle.rules.specs.Areas.{R, base, page, kind, every, recoveryOf, recovery, isFree, Entry, entries, twice, damaged, ready, mapOf, liveWords}
 use Rattle.rules.specs.Refusals.{unready}
 use Rattle.rules.specs.Lists.{bare}
 use Rattle.rules.specs.Laws.{and-left, and-right}
+use Rattle.rules.specs.Places.{page-in, length-page}
 use Rattle.demands.specs.Terms.{Fair, Map, laid, blanks, Good, Goods, good-item, written, layout}
 use Rattle.demands.specs.Pages.{image, image-layout, codes-written, stop-image, item, goods-append, goods-left, goods-right, goods-head, goods-items, bare-header, header-dead, at-seal, blank-all, all-blank, items-image, kind-image, sealed-shape, is-sealed, front, length-front, image-front, image-at}
-use Rattle.demands.specs.Runs.{meta-low, shape-of, Usable, same-or-not, right-wrong, page-in, length-page, Only, Turns, turns-as, turns-put, every-true, true-every}
+use Rattle.demands.specs.Runs.{shape-of, meta-low, Usable, same-or-not, right-wrong, Only, Turns, turns-as, turns-put, every-true, true-every}
 use Rattle.demands.specs.Entries.{zeroed, look}
 use Rattle.demands.specs.Layout.{laid-same, from-laid, located}
 
@@ -33,23 +37,23 @@ unfolding madeFirst
 given-first k ss g = given-made (take k ss) g
 
 -- ---- R
-blank-free : (n p : ℕ) → recoveryOf n (blanks p) ≡ free
+blank-free : (n p : ℕ) → recoveryOf n (blanks p) ≡ Free
 unfolding recoveryOf
 blank-free n p = rw (blank-all p)
 
 -- what the words of R say of it
 data RShape (n : ℕ) (r : List ℕ) : Recovery → Type 0 where
-  shape-free : r ≡ blanks (length r) → RShape n r free
-  shape-unfinished : getD r 1 0 ≡ blank → RShape n r unfinished
-  shape-committed : {i : ℕ} → i < n → kindOf n i r ≡ sealed → RShape n r (committed i)
-  shape-damage : RShape n r damage
+  shape-free : r ≡ blanks (length r) → RShape n r Free
+  shape-unfinished : getD r 1 0 ≡ blank → RShape n r Unfinished
+  shape-committed : {i : ℕ} → i < n → kindOf n i r ≡ Sealed → RShape n r (Committed i)
+  shape-damage : RShape n r Damage
 
 r-shape : (n : ℕ) (r : List ℕ) (s : Recovery) → recoveryOf n r ≡ s → RShape n r s
 unfolding recoveryOf
 r-shape n r s e = subst (RShape n r) e (go (allBlank r) refl (eqb (getD r 1 0) blank) refl (ltb (indexOf (getD r 1 0)) n && isSealed (kindOf n (indexOf (getD r 1 0)) r)) refl)
   where
     go : (b : Bool) → allBlank r ≡ b → (c : Bool) → eqb (getD r 1 0) blank ≡ c → (d : Bool) → ltb (indexOf (getD r 1 0)) n && isSealed (kindOf n (indexOf (getD r 1 0)) r) ≡ d
-        → RShape n r (cond b free (cond c unfinished (cond d (committed (indexOf (getD r 1 0))) damage)))
+        → RShape n r (cond b Free (cond c Unfinished (cond d (Committed (indexOf (getD r 1 0))) Damage)))
     go true p c q d w = shape-free (all-blank r p)
     go false p true q d w = shape-unfinished (eqb-true (getD r 1 0) blank q)
     go false p false q true w =
@@ -57,30 +61,30 @@ r-shape n r s e = subst (RShape n r) e (go (allBlank r) refl (eqb (getD r 1 0) b
         shape-committed (ltb-true j n (and-left (ltb j n) (isSealed (kindOf n j r)) w)) (is-sealed (kindOf n j r) (and-right (ltb j n) (isSealed (kindOf n j r)) w))
     go false p false q false w = shape-damage
 
-pub free-blank : (n : ℕ) (r : List ℕ) → recoveryOf n r ≡ free → r ≡ blanks (length r)
-free-blank n r e = go (r-shape n r free e)
+pub free-blank : (n : ℕ) (r : List ℕ) → recoveryOf n r ≡ Free → r ≡ blanks (length r)
+free-blank n r e = go (r-shape n r Free e)
   where
-    go : RShape n r free → r ≡ blanks (length r)
+    go : RShape n r Free → r ≡ blanks (length r)
     go (shape-free b) = b
 
-pub unfinished-word : (n : ℕ) (r : List ℕ) → recoveryOf n r ≡ unfinished → getD r 1 0 ≡ blank
-unfinished-word n r e = go (r-shape n r unfinished e)
+pub unfinished-word : (n : ℕ) (r : List ℕ) → recoveryOf n r ≡ Unfinished → getD r 1 0 ≡ blank
+unfinished-word n r e = go (r-shape n r Unfinished e)
   where
-    go : RShape n r unfinished → getD r 1 0 ≡ blank
+    go : RShape n r Unfinished → getD r 1 0 ≡ blank
     go (shape-unfinished b) = b
 
-pub committed-r : (n i : ℕ) (r : List ℕ) → recoveryOf n r ≡ committed i → (i < n) × (kindOf n i r ≡ sealed)
-committed-r n i r e = go (r-shape n r (committed i) e)
+pub committed-r : (n i : ℕ) (r : List ℕ) → recoveryOf n r ≡ Committed i → (i < n) × (kindOf n i r ≡ Sealed)
+committed-r n i r e = go (r-shape n r (Committed i) e)
   where
-    go : RShape n r (committed i) → (i < n) × (kindOf n i r ≡ sealed)
+    go : RShape n r (Committed i) → (i < n) × (kindOf n i r ≡ Sealed)
     go (shape-committed h k) = (h, k)
 
 -- and back
-pub open-r : (n : ℕ) (r : List ℕ) → getD r 1 0 ≡ blank → (recoveryOf n r ≡ free) ⊎ (recoveryOf n r ≡ unfinished)
+pub open-r : (n : ℕ) (r : List ℕ) → getD r 1 0 ≡ blank → (recoveryOf n r ≡ Free) ⊎ (recoveryOf n r ≡ Unfinished)
 unfolding recoveryOf
 open-r n r e = go (allBlank r) refl
   where
-    go : (b : Bool) → allBlank r ≡ b → (recoveryOf n r ≡ free) ⊎ (recoveryOf n r ≡ unfinished)
+    go : (b : Bool) → allBlank r ≡ b → (recoveryOf n r ≡ Free) ⊎ (recoveryOf n r ≡ Unfinished)
     go true p = inl (rw p)
     go false p = inr (rw (p, e))
 
@@ -96,30 +100,30 @@ image-word : (n i : ℕ) (es : List Item) (t : List ℕ) → getD (image n i es 
 unfolding image
 image-word n i es t = refl
 
-pub closed-r : (n i : ℕ) (es : List Item) (m : ℕ) → i < n → n ≤ 255 → Goods es → recoveryOf n (image n i es (seal ∷ blanks m)) ≡ committed i
+pub closed-r : (n i : ℕ) (es : List Item) (m : ℕ) → i < n → n ≤ 255 → Goods es → recoveryOf n (image n i es (seal ∷ blanks m)) ≡ Committed i
 unfolding recoveryOf
 closed-r n i es m h l gs =
     let b = ne-eqb (meta1 n i) blank (λ q. omega (arith, meta-low n i h l)) in
     rw (image-some n i es (seal ∷ blanks m), image-word n i es (seal ∷ blanks m), b, index-meta n i h l, lt-ltb i n h, kind-image at-seal n i m es gs)
 
-is-free : (r : Recovery) → isFree r ≡ true → r ≡ free
-is-free free e = refl
-is-free unfinished e = absurd (false≢true e)
-is-free (committed i) e = absurd (false≢true e)
-is-free damage e = absurd (false≢true e)
+is-free : (r : Recovery) → isFree r ≡ true → r ≡ Free
+is-free Free e = refl
+is-free Unfinished e = absurd (false≢true e)
+is-free (Committed i) e = absurd (false≢true e)
+is-free Damage e = absurd (false≢true e)
 
 -- ---- R blank, each page sealed or torn, and those below j sealed
 pub record Mended (a : Area) (j : ℕ) (f : List ℕ) : Type 0 where
   pub given : Usable a f
   pub spare : page a f (R a) ≡ blanks (a .words)
   pub sound : (i : ℕ) → i < a .pages → isSound (kind a f i) ≡ true
-  pub done : (i : ℕ) → i < a .pages → i < j → kind a f i ≡ sealed
+  pub done : (i : ℕ) → i < a .pages → i < j → kind a f i ≡ Sealed
 
 -- all sealed
 abbrev pub Settled : Area → List ℕ → Type 0
 Settled a f = Mended a (a .pages) f
 
-pub mended-free : {a : Area} {j : ℕ} {f : List ℕ} → Mended a j f → recovery a f ≡ free
+pub mended-free : {a : Area} {j : ℕ} {f : List ℕ} → Mended a j f → recovery a f ≡ Free
 mended-free {a} m = rw (m .spare) (blank-free (a .pages) (a .words))
 
 pub mended-sound : {a : Area} {j : ℕ} {f : List ℕ} → Mended a j f → damaged a f ≡ false
@@ -138,7 +142,7 @@ ready-settled {a} {f} g e =
     let p = and-right (isFree (recovery a f)) _ e in
     let fr = is-free (recovery a f) (and-left (isFree (recovery a f)) _ e) in
     let q = and-left (every (λ i. isSealed (kind a f i)) (a .pages) 0) _ p in
-    let w : (i : ℕ) → i < a .pages → kind a f i ≡ sealed = λ i h. is-sealed (kind a f i) (every-true (λ i. isSealed (kind a f i)) (a .pages) 0 q i zero-le (omega arith)) in (
+    let w : (i : ℕ) → i < a .pages → kind a f i ≡ Sealed = λ i h. is-sealed (kind a f i) (every-true (λ i. isSealed (kind a f i)) (a .pages) 0 q i zero-le (omega arith)) in (
       record {
         given = g;
         spare = free-blank (a .pages) (page a f (a .pages)) fr ∙ ap blanks (length-page a f (a .pages) (page-in (shape-of g) (a .pages) (omega arith)));
@@ -185,13 +189,13 @@ stands-look s u = s .map u
 
 -- one page turned to another
 pub mended-only : {a : Area} {j : ℕ} {f g : List ℕ} {i : ℕ} {x : List ℕ} → Mended a j f → Usable a g → i < a .pages → Only a f g i x
-    → isSound (kindOf (a .pages) i x) ≡ true → (i < j → kindOf (a .pages) i x ≡ sealed) → Mended a j g
+    → isSound (kindOf (a .pages) i x) ≡ true → (i < j → kindOf (a .pages) i x ≡ Sealed) → Mended a j g
 mended-only {a} {j} {f} {g} {i} {x} m v h o s d =
     record {
       given = v;
       spare = o .there (a .pages) (λ q. omega arith) ∙ m .spare;
       sound = λ l b. ⊎-elim (λ q. subst (λ (u : ℕ). isSound (kind a g u) ≡ true) q (rw (o .here) s)) (λ n. rw (o .there l n) (m .sound l b)) (same-or-not i l);
-      done = λ l b c. ⊎-elim (λ q. subst (λ (u : ℕ). kind a g u ≡ sealed) q (rw (o .here) (d (rw q c)))) (λ n. rw (o .there l n) (m .done l b c)) (same-or-not i l);
+      done = λ l b c. ⊎-elim (λ q. subst (λ (u : ℕ). kind a g u ≡ Sealed) q (rw (o .here) (d (rw q c)))) (λ n. rw (o .there l n) (m .done l b c)) (same-or-not i l);
     }
 
 pub settled-page : {a : Area} {f : List ℕ} → Settled a f → (i : ℕ) → i < a .pages → (m : ℕ) × (page a f i ≡ image (a .pages) i (items (page a f i)) (seal ∷ blanks m))
@@ -259,7 +263,7 @@ pub laid-settled : {a : Area} {f : List ℕ} → Usable a f → (es : ℕ → Li
     → Settled a f × (entries a f ≡ laid a es (a .pages) 0)
 unfolding entries
 laid-settled {a} {f} g es m gs is sp =
-    let k : (i : ℕ) → i < a .pages → kind a f i ≡ sealed = λ i h. rw (is i h) (kind-image at-seal (a .pages) i (m i) (es i) (gs i h)) in (
+    let k : (i : ℕ) → i < a .pages → kind a f i ≡ Sealed = λ i h. rw (is i h) (kind-image at-seal (a .pages) i (m i) (es i) (gs i h)) in (
       record { given = g; spare = sp; sound = λ i h. rw (k i h); done = λ i h l. k i h },
       from-laid a f (a .pages) 0 ∙ laid-same a (λ i. items (page a f i)) es (a .pages) 0 (λ i lo hi. rw (is i (omega arith)) (items-image at-seal (a .pages) i (m i) (es i) (gs i (omega arith)))),
     )

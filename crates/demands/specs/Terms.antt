@@ -12,7 +12,9 @@ use Rattle.flash.specs.Stores.{Words, Store, put, stored, apply, made}
 use Rattle.rules.specs.declared.Area.{Area}
 use Rattle.rules.specs.declared.Answer.{Answer}
 use Rattle.rules.specs.declared.Refusal.the-variants.{NotFound}
-use Rattle.rules.specs.Walk.{Item, entryLength, items, Kind, sealed, torn, neither}
+use Rattle.rules.specs.declared.Kind.{Kind}
+use Rattle.rules.specs.declared.Kind.the-variants.{Sealed, Torn, Neither}
+use Rattle.rules.specs.Walk.{Item, entryLength, items}
 use Rattle.rules.specs.Areas.{R, base, page, kind, recovery, names, Entry, placed, pageEntries, entries, anyOf, liveOf, find, mapOf, liveWords, ready}
 use Rattle.rules.specs.Refusals.{isNone, holds, Outcome, outcome}
 use Rattle.rules.specs.Lists.{erase, roomPage, compactPage, recoverList, Request, format, recover, write, delete, planOf}
@@ -228,9 +230,9 @@ butLast (e ∷ (d ∷ es)) = e ∷ butLast (d ∷ es)
 
 -- of a page's entries: all but the last of a torn one
 abbrev pub keptOf : Kind → List Item → List Item
-keptOf sealed es = es
-keptOf torn es = butLast es
-keptOf neither es = es
+keptOf Sealed es = es
+keptOf Torn es = butLast es
+keptOf Neither es = es
 
 -- of page i: what R holds, if R is committed and names it; else of its own
 abbrev pub keptItems : Area → List ℕ → ℕ → List Item

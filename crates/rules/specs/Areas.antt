@@ -8,8 +8,11 @@ use lib.ListN.{getD, take, drop}
 use lib.Dec.{ltb, eqb}
 use Rattle.flash.specs.Stores.{blank}
 use Rattle.rules.specs.declared.Area.{Area}
+use Rattle.rules.specs.declared.Kind.{Kind}
+use Rattle.rules.specs.declared.Recovery.{Recovery}
+use Rattle.rules.specs.declared.Recovery.the-variants.{Free, Unfinished, Committed, Damage}
 use Rattle.rules.specs.Words.{indexOf, isLive}
-use Rattle.rules.specs.Walk.{Item, entryLength, items, allBlank, Kind, kindOf, isSealed, isSound}
+use Rattle.rules.specs.Walk.{Item, entryLength, items, allBlank, kindOf, isSealed, isSound}
 
 -- ---- pages, and R behind them
 -- the index at which R stands
@@ -32,39 +35,33 @@ every t zero i = true
 every t (suc n) i = t i && every t n (suc i)
 
 -- ---- R, with the index that a committed one names
-pub data Recovery : Type 0 where
-  free : Recovery
-  unfinished : Recovery
-  committed : ℕ → Recovery
-  damage : Recovery
-
--- of the words of R, in an area of n pages
+-- by its words, in an area of n pages
 unfoldable pub recoveryOf : ℕ → List ℕ → Recovery
 recoveryOf n r =
     let w = getD r 1 0 in
-    cond (allBlank r) free (cond (eqb w blank) unfinished (cond (ltb (indexOf w) n && isSealed (kindOf n (indexOf w) r)) (committed (indexOf w)) damage))
+    cond (allBlank r) Free (cond (eqb w blank) Unfinished (cond (ltb (indexOf w) n && isSealed (kindOf n (indexOf w) r)) (Committed (indexOf w)) Damage))
 
 abbrev pub recovery : Area → List ℕ → Recovery
 recovery a f = recoveryOf (a .pages) (page a f (R a))
 
 abbrev pub isFree : Recovery → Bool
-isFree free = true
-isFree unfinished = false
-isFree (committed j) = false
-isFree damage = false
+isFree Free = true
+isFree Unfinished = false
+isFree (Committed j) = false
+isFree Damage = false
 
 abbrev pub isDamage : Recovery → Bool
-isDamage free = false
-isDamage unfinished = false
-isDamage (committed j) = false
-isDamage damage = true
+isDamage Free = false
+isDamage Unfinished = false
+isDamage (Committed j) = false
+isDamage Damage = true
 
 -- whether R is committed and names page i
 abbrev pub names : Recovery → ℕ → Bool
-names free i = false
-names unfinished i = false
-names (committed j) i = eqb i j
-names damage i = false
+names Free i = false
+names Unfinished i = false
+names (Committed j) i = eqb i j
+names Damage i = false
 
 -- ---- entries in area order, each with the place of its header in the run
 pub record Entry : Type 0 where

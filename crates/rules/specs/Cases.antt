@@ -8,8 +8,10 @@ use Rattle.rules.specs.declared.Area.{Area}
 use Rattle.rules.specs.declared.Answer.{Answer}
 use Rattle.rules.specs.declared.Reading.{Reading}
 use Rattle.rules.specs.declared.Yielded.{Yielded}
-use Rattle.rules.specs.Walk.{stop, Kind}
-use Rattle.rules.specs.Areas.{page, kind, Recovery, recovery, entries, mapOf, liveWords}
+use Rattle.rules.specs.declared.Kind.{Kind}
+use Rattle.rules.specs.declared.Recovery.{Recovery}
+use Rattle.rules.specs.Walk.{stop}
+use Rattle.rules.specs.Areas.{page, kind, recovery, entries, mapOf, liveWords}
 use Rattle.rules.specs.Refusals.{areaQuota, readingPlace, readingWords, outcome}
 use Rattle.rules.specs.Lists.{Request, planOf}
 use Rattle.rules.specs.Search.{readOf, Search, stepOf, moved}

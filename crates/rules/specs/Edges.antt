@@ -11,9 +11,11 @@ use Rattle.rules.specs.declared.Refusal.the-variants.{Geometry, Damaged,
 use Rattle.rules.specs.declared.Answer.the-variants.{Done, Cut, Refused}
 use Rattle.rules.specs.declared.Reading.{Reading}
 use Rattle.rules.specs.declared.Yielded.{Yielded}
+use Rattle.rules.specs.declared.Kind.the-variants.{Sealed, Torn, Neither}
+use Rattle.rules.specs.declared.Recovery.the-variants.{Unfinished, Committed}
 use Rattle.rules.specs.Words.{meta1, indexOf, header}
-use Rattle.rules.specs.Walk.{begins, items, rest, stop, metaRight, kindOf, sealed, torn, neither}
-use Rattle.rules.specs.Areas.{base, page, recoveryOf, unfinished, committed, entries, damaged, ready, mapOf}
+use Rattle.rules.specs.Walk.{begins, items, rest, stop, metaRight, kindOf}
+use Rattle.rules.specs.Areas.{base, page, recoveryOf, entries, damaged, ready, mapOf}
 use Rattle.rules.specs.Refusals.{readingNumber, readingStores, readingPlace, readingWords, yieldedNumber, yieldedStores, yieldedPlace, wrongGeometry, unready, holds, noRoom}
 use Rattle.rules.specs.Lists.{liveCodes, roomPage, compactPage, format, recover, write, delete}
 use Rattle.rules.specs.Search.{next, badPlace}
@@ -126,7 +128,7 @@ filled =
     record {
       area = small 2;
       start = sheet (0x10100408 ∷ 0xFFFF0002 ∷ 0x00000020 ∷ (sevens 31 ++ 0x7FFFFFFF ∷ [])) ++ (sheet (0x10100408 ∷ 0xFFFF0102 ∷ 0x7FFFFFFF ∷ []) ++ blanks 64);
-      steps = (asks (write 0x0002 (zeros 28)) enough, answer (Done 30)) ∷ (looks 0, page-is sealed 63) ∷ (reads 0x0002, reading (Reading.At 34 28) (zeros 28)) ∷ [];
+      steps = (asks (write 0x0002 (zeros 28)) enough, answer (Done 30)) ∷ (looks 0, page-is Sealed 63) ∷ (reads 0x0002, reading (Reading.At 34 28) (zeros 28)) ∷ [];
       words = 0x10100408
           ∷ 0xFFFF0002
           ∷ 0x00000020
@@ -145,14 +147,14 @@ full =
     sheet (0x10100408 ∷ 0xFFFF0001 ∷ 0x00000021 ∷ (zeros 32 ++ 0x00120003 ∷ 0x00000005 ∷ 0x00000006 ∷ 0x00000014 ∷ (zeros 19 ++ 0x7FFFFFFF ∷ []))) ++ blanks 64
 
 abbrev compacted : List (Act × Seen) → List ℕ → Case
-compacted xs ws = record { area = small 1; start = full; steps = (looks 0, page-is sealed 58) ∷ xs; words = ws }
+compacted xs ws = record { area = small 1; start = full; steps = (looks 0, page-is Sealed 58) ∷ xs; words = ws }
 
 abbrev compactions : List Case
 compactions =
-    compacted ((asks (write 0x0012 (sevens 7)) enough, answer (Done 24)) ∷ (looks 0, page-is sealed 13) ∷ (looks-up 0x0012, value (some (sevens 7))) ∷ [])
+    compacted ((asks (write 0x0012 (sevens 7)) enough, answer (Done 24)) ∷ (looks 0, page-is Sealed 13) ∷ (looks-up 0x0012, value (some (sevens 7))) ∷ [])
     (sheet (0x10100408 ∷ 0xFFFF0001 ∷ 0x00000003 ∷ 0x00000005 ∷ 0x00000006 ∷ 0x00120008 ∷ (sevens 7 ++ 0x7FFFFFFF ∷ [])) ++ blanks 64)
-    ∷ compacted ((asks (write 0x0012 (sevens 7)) 5, answer (Cut 5)) ∷ (looks-at-R, R-is unfinished) ∷ (asks recover enough, answer (Done 1)) ∷ []) full
-    ∷ compacted ((asks (write 0x0012 (sevens 7)) 8, answer (Cut 8)) ∷ (looks-at-R, R-is (committed 0)) ∷ (looks 0, page-is neither 5) ∷ [])
+    ∷ compacted ((asks (write 0x0012 (sevens 7)) 5, answer (Cut 5)) ∷ (looks-at-R, R-is Unfinished) ∷ (asks recover enough, answer (Done 1)) ∷ []) full
+    ∷ compacted ((asks (write 0x0012 (sevens 7)) 8, answer (Cut 8)) ∷ (looks-at-R, R-is (Committed 0)) ∷ (looks 0, page-is Neither 5) ∷ [])
     (0xFFFFFFFF ∷ 0xFFFFFFFF ∷ 0x00120003 ∷ (blanks 61 ++ sheet (0x10100408 ∷ 0xFFFF0001 ∷ 0x00120003 ∷ 0x00000005 ∷ 0x00000006 ∷ 0x7FFFFFFF ∷ [])))
     ∷ []
 
@@ -164,7 +166,7 @@ chosen =
     record {
       area = small 3;
       start = p ++ (q 0xFFFF0103 ++ (q 0xFFFF0203 ++ blanks 64));
-      steps = (asks (write 0x0003 (sevens 10)) 3, answer (Cut 3)) ∷ (looks-at-R, R-is (committed 1)) ∷ [];
+      steps = (asks (write 0x0003 (sevens 10)) 3, answer (Cut 3)) ∷ (looks-at-R, R-is (Committed 1)) ∷ [];
       words = p ++ (q 0xFFFF0103 ++ (q 0xFFFF0203 ++ sheet (0x10100408 ∷ 0xFFFF0103 ∷ 0x7FFFFFFF ∷ [])));
     }
 
@@ -179,7 +181,7 @@ restored xs ws =
     record {
       area = small 2;
       start = p ++ (zeros 64 ++ sheet (0x10100408 ∷ 0xFFFF0102 ∷ held));
-      steps = (looks-at-R, R-is (committed 1)) ∷ (reads 0x0005, reading (Reading.Refused Unready) []) ∷ xs;
+      steps = (looks-at-R, R-is (Committed 1)) ∷ (reads 0x0005, reading (Reading.Refused Unready) []) ∷ xs;
       words = p ++ ws;
     }
 
@@ -199,7 +201,7 @@ torn-pages =
     record {
       area = small 3;
       start = sheet (0x10100408 ∷ 0xFFFF0003 ∷ 0x00050001 ∷ 0x00060002 ∷ 0x00000007 ∷ []) ++ (sheet (0x10100408 ∷ 0xFFFF0103 ∷ []) ++ (sheet (0x10100408 ∷ 0xFFFF0203 ∷ 0x00000001 ∷ []) ++ blanks 64));
-      steps = (looks 0, page-is torn 5) ∷ (asks recover 3, answer (Cut 3)) ∷ (looks 2, page-is torn 3) ∷ (asks recover enough, answer (Done 1)) ∷ [];
+      steps = (looks 0, page-is Torn 5) ∷ (asks recover 3, answer (Cut 3)) ∷ (looks 2, page-is Torn 3) ∷ (asks recover enough, answer (Done 1)) ∷ [];
       words = sheet (0x10100408 ∷ 0xFFFF0003 ∷ 0x00050001 ∷ 0x00000002 ∷ 0x00000007 ∷ 0x7FFFFFFF ∷ []) ++ (sheet (0x10100408 ∷ 0xFFFF0103 ∷ 0x7FFFFFFF ∷ []) ++ (sheet (0x10100408 ∷ 0xFFFF0203 ∷ 0x00000001 ∷ 0x7FFFFFFF ∷ []) ++ blanks 64));
     }
 

@@ -5,6 +5,7 @@ pub mod Refusals
 pub mod Lists
 pub mod Search
 pub mod Laws
+pub mod Places
 pub mod Cases
 pub mod Worked
 pub mod Edges

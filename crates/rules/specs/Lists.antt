@@ -7,9 +7,13 @@ use lib.ListN.{take, drop}
 use lib.Dec.{leb}
 use Rattle.flash.specs.Stores.{Store, put, wipe, puts, Step, _then_, each}
 use Rattle.rules.specs.declared.Area.{Area}
+use Rattle.rules.specs.declared.Kind.{Kind}
+use Rattle.rules.specs.declared.Kind.the-variants.{Sealed, Torn, Neither}
+use Rattle.rules.specs.declared.Recovery.{Recovery}
+use Rattle.rules.specs.declared.Recovery.the-variants.{Free, Unfinished, Committed, Damage}
 use Rattle.rules.specs.Words.{openWords, lastSeal, meta0, meta1, header, isLive, seal}
-use Rattle.rules.specs.Walk.{Item, entryLength, codes, items, stop, Kind, sealed, torn, neither}
-use Rattle.rules.specs.Areas.{R, base, page, kind, Recovery, free, unfinished, committed, damage, recovery, Entry, pageEntries, entries, doubled, find, liveWords}
+use Rattle.rules.specs.Walk.{Item, entryLength, codes, items, stop}
+use Rattle.rules.specs.Areas.{R, base, page, kind, recovery, Entry, pageEntries, entries, doubled, find, liveWords}
 use Rattle.rules.specs.Refusals.{checked, formatChecks, recoverChecks, writeChecks, findChecks, holds, Plan, refuse, list}
 
 abbrev pub erase : Area → ℕ → Store
@@ -99,10 +103,10 @@ writePlan a h d f = checked refuse (writeChecks a f h d) (list (writeList a h d 
 -- ---- recover
 -- (a)
 abbrev pub finishAs : Recovery → Area → Step
-finishAs free a f = []
-finishAs unfinished a f = erase a (R a) ∷ []
-finishAs (committed i) a f = let r = page a f (R a) in restore a i (take (stop r - 1) (drop 2 r))
-finishAs damage a f = []
+finishAs Free a f = []
+finishAs Unfinished a f = erase a (R a) ∷ []
+finishAs (Committed i) a f = let r = page a f (R a) in restore a i (take (stop r - 1) (drop 2 r))
+finishAs Damage a f = []
 
 abbrev pub finish : Area → Step
 finish a f = finishAs (recovery a f) a f
@@ -118,9 +122,9 @@ bareIfLive none = []
 bareIfLive (some e) = cond (isLive (e .handle)) (bare e ∷ []) []
 
 abbrev pub mendAs : Kind → Area → ℕ → Step
-mendAs sealed a i f = []
-mendAs torn a i f = bareIfLive (lastOf (pageEntries a f i)) ++ put (base a i + stop (page a f i)) seal ∷ []
-mendAs neither a i f = []
+mendAs Sealed a i f = []
+mendAs Torn a i f = bareIfLive (lastOf (pageEntries a f i)) ++ put (base a i + stop (page a f i)) seal ∷ []
+mendAs Neither a i f = []
 
 abbrev pub mend : Area → ℕ → Step
 mend a i f = mendAs (kind a f i) a i f

@@ -6,6 +6,8 @@ use Prim.Native.Nat.{ℕ, suc, zero, _+_, _-_}
 use lib.ListN.{length, getD, take, drop}
 use lib.Dec.{leb, ltb, eqb}
 use Rattle.flash.specs.Stores.{blank}
+use Rattle.rules.specs.declared.Kind.{Kind}
+use Rattle.rules.specs.declared.Kind.the-variants.{Sealed, Torn, Neither}
 use Rattle.rules.specs.Words.{longest, meta0, meta1, header, handleOf, lengthOf, special, seal}
 
 -- an entry of a page: its handle and its data
@@ -58,29 +60,24 @@ abbrev pub allBlank : List ℕ → Bool
 allBlank [] = true
 allBlank (w ∷ ws) = eqb w blank && allBlank ws
 
-pub data Kind : Type 0 where
-  sealed : Kind
-  torn : Kind
-  neither : Kind
-
 -- by the words from where the walk stops
 abbrev pub endKind : List ℕ → Kind
-endKind [] = neither
-endKind (w ∷ ws) = cond (allBlank ws) (cond (eqb w seal) sealed (cond (eqb w blank) torn neither)) neither
+endKind [] = Neither
+endKind (w ∷ ws) = cond (allBlank ws) (cond (eqb w seal) Sealed (cond (eqb w blank) Torn Neither)) Neither
 
 unfoldable pub metaRight : ℕ → ℕ → List ℕ → Bool
 metaRight n i p = eqb (getD p 0 0) meta0 && eqb (getD p 1 0) (meta1 n i)
 
 -- of the page with the index i of n
 unfoldable pub kindOf : ℕ → ℕ → List ℕ → Kind
-kindOf n i p = cond (metaRight n i p) (endKind (rest p)) neither
+kindOf n i p = cond (metaRight n i p) (endKind (rest p)) Neither
 
 abbrev pub isSealed : Kind → Bool
-isSealed sealed = true
-isSealed torn = false
-isSealed neither = false
+isSealed Sealed = true
+isSealed Torn = false
+isSealed Neither = false
 
 abbrev pub isSound : Kind → Bool
-isSound sealed = true
-isSound torn = true
-isSound neither = false
+isSound Sealed = true
+isSound Torn = true
+isSound Neither = false

@@ -11,8 +11,9 @@ use Rattle.rules.specs.declared.Refusal.the-variants.{Unready, BadHandle
 use Rattle.rules.specs.declared.Answer.the-variants.{Done, Cut, Refused}
 use Rattle.rules.specs.declared.Reading.{Reading}
 use Rattle.rules.specs.declared.Yielded.{Yielded}
+use Rattle.rules.specs.declared.Kind.the-variants.{Sealed, Torn}
 use Rattle.rules.specs.Words.{wordsOf, openWords, quota, lastSeal, meta1, indexOf, header}
-use Rattle.rules.specs.Walk.{begins, items, rest, stop, metaRight, kindOf, sealed, torn}
+use Rattle.rules.specs.Walk.{begins, items, rest, stop, metaRight, kindOf}
 use Rattle.rules.specs.Areas.{base, page, recoveryOf, entries, damaged, ready, mapOf}
 use Rattle.rules.specs.Refusals.{wrongGeometry, unready, holds, noRoom}
 use Rattle.rules.specs.Lists.{liveCodes, roomPage, compactPage, format, recover, write, delete}
@@ -46,14 +47,14 @@ cases =
     record {
       area = small 1;
       start = zeros 128;
-      steps = formatted ∷ (looks 0, page-is sealed 2) ∷ [];
+      steps = formatted ∷ (looks 0, page-is Sealed 2) ∷ [];
       words = 0x10100408 ∷ 0xFFFF0001 ∷ 0x7FFFFFFF ∷ blanks 125;
     }
     -- 2: then write 0012 with A1B2C3D4
     ∷ record {
       area = small 1;
       start = zeros 128;
-      steps = formatted ∷ first ∷ (looks 0, page-is sealed 4) ∷ (looks-up 0x0012, value (some (0xA1B2C3D4 ∷ []))) ∷ [];
+      steps = formatted ∷ first ∷ (looks 0, page-is Sealed 4) ∷ (looks-up 0x0012, value (some (0xA1B2C3D4 ∷ []))) ∷ [];
       words = 0x10100408 ∷ 0xFFFF0001 ∷ 0x00120002 ∷ 0xA1B2C3D4 ∷ 0x7FFFFFFF ∷ blanks 123;
     }
     -- 3: then 00000005
@@ -63,7 +64,7 @@ cases =
       steps = formatted
           ∷ first
           ∷ (second enough, answer (Done 4))
-          ∷ (looks 0, page-is sealed 6)
+          ∷ (looks 0, page-is Sealed 6)
           ∷ (reads 0x0012, reading (Reading.At 4 1) (0x00000005 ∷ []))
           ∷ [];
       words = 0x10100408 ∷ 0xFFFF0001 ∷ 0x00000002 ∷ 0xA1B2C3D4 ∷ 0x00120002 ∷ 0x00000005 ∷ 0x7FFFFFFF ∷ blanks 121;
@@ -75,10 +76,10 @@ cases =
       steps = formatted
           ∷ first
           ∷ (second 2, answer (Cut 2))
-          ∷ (looks 0, page-is torn 6)
+          ∷ (looks 0, page-is Torn 6)
           ∷ (reads 0x0012, reading (Reading.Refused Unready) [])
           ∷ (asks recover enough, answer (Done 2))
-          ∷ (looks 0, page-is sealed 6)
+          ∷ (looks 0, page-is Sealed 6)
           ∷ (reads 0x0012, reading (Reading.At 2 1) (0xA1B2C3D4 ∷ []))
           ∷ (looks-up 0x0012, value (some (0xA1B2C3D4 ∷ [])))
           ∷ [];
@@ -91,7 +92,7 @@ cases =
       steps = formatted
           ∷ first
           ∷ (second 3, answer (Cut 3))
-          ∷ (looks 0, page-is sealed 6)
+          ∷ (looks 0, page-is Sealed 6)
           ∷ (reads 0x0012, reading (Reading.Refused Unready) [])
           ∷ (asks recover enough, answer (Done 1))
           ∷ (reads 0x0012, reading (Reading.At 4 1) (0x00000005 ∷ []))

@@ -5,7 +5,9 @@
 ghost use mathlib.Core.Path.{_≡_};
 ghost use Prim.Native.Nat.{_≤_};
 ghost use Rattle.rules.specs.Words.{wordsOf, sizeOf, openWords, quota, lastSeal};
-ghost use Rattle.rules.specs.Refusals.{refusalNumber, answerNumber, answerStores};
+ghost use Rattle.rules.specs.Walk.{isSealed, isSound};
+ghost use Rattle.rules.specs.Areas.{isFree, isDamage, names};
+ghost use Rattle.rules.specs.Refusals.{refusalNumber, answerNumber, answerStores, readingNumber, readingPlace, readingWords, yieldedNumber, yieldedPlace};
 
 // An area: so many pages of so many words each, and behind them the recovery page. Any numbers may
 // stand here; GEOMETRY judges them.
@@ -82,6 +84,83 @@ impl PageSize {
     }
 }
 
+// What a page is, by its metadata and the end of its walk.
+pub enum Kind {
+    Sealed,
+    Torn,
+    Neither,
+}
+
+impl Kind {
+    // Whether the page is sealed.
+    pub fn is_sealed(self) -> bool
+        ensures { λ r. ⌜ r ≡ isSealed self ⌝ }
+    {
+        match self {
+            Kind::Sealed => true,
+            Kind::Torn => false,
+            Kind::Neither => false,
+        }
+    }
+
+    // Whether the page is sealed or torn.
+    pub fn is_sound(self) -> bool
+        ensures { λ r. ⌜ r ≡ isSound self ⌝ }
+    {
+        match self {
+            Kind::Sealed => true,
+            Kind::Torn => true,
+            Kind::Neither => false,
+        }
+    }
+}
+
+// What the recovery page is; a committed one names the index of a page.
+pub enum Recovery {
+    Free,
+    Unfinished,
+    Committed(usize),
+    Damage,
+}
+
+impl Recovery {
+    // Whether it is free.
+    pub fn is_free(self) -> bool
+        ensures { λ r. ⌜ r ≡ isFree self ⌝ }
+    {
+        match self {
+            Recovery::Free => true,
+            Recovery::Unfinished => false,
+            Recovery::Committed(_) => false,
+            Recovery::Damage => false,
+        }
+    }
+
+    // Whether it is damage.
+    pub fn is_damage(self) -> bool
+        ensures { λ r. ⌜ r ≡ isDamage self ⌝ }
+    {
+        match self {
+            Recovery::Free => false,
+            Recovery::Unfinished => false,
+            Recovery::Committed(_) => false,
+            Recovery::Damage => true,
+        }
+    }
+
+    // Whether it is committed and names the page with the index.
+    pub fn names(self, index: usize) -> bool
+        ensures { λ r. ⌜ r ≡ names self index ⌝ }
+    {
+        match self {
+            Recovery::Free => false,
+            Recovery::Unfinished => false,
+            Recovery::Committed(named) => index == named,
+            Recovery::Damage => false,
+        }
+    }
+}
+
 // Why a request was refused, by the names of document 01's table.
 pub enum Refusal {
     Geometry,
@@ -151,8 +230,62 @@ pub enum Reading {
     Refused(Refusal),
 }
 
+impl Reading {
+    // Its number in document 01's table.
+    pub fn number(self) -> u8
+        ensures { λ r. ⌜ r ≡ readingNumber self ⌝ }
+    {
+        match self {
+            Reading::At { place: _, words: _ } => 0,
+            Reading::Refused(why) => why.number(),
+        }
+    }
+
+    // The place of the entry's header in the run, 0 if refused.
+    pub fn place(self) -> usize
+        ensures { λ r. ⌜ r ≡ readingPlace self ⌝ }
+    {
+        match self {
+            Reading::At { place, words: _ } => place,
+            Reading::Refused(_) => 0,
+        }
+    }
+
+    // The number of data words, 0 if refused.
+    pub fn words(self) -> usize
+        ensures { λ r. ⌜ r ≡ readingWords self ⌝ }
+    {
+        match self {
+            Reading::At { place: _, words } => words,
+            Reading::Refused(_) => 0,
+        }
+    }
+}
+
 // What a step of a search yields: the place of the next match's header in the run, or a refusal.
 pub enum Yielded {
     At(usize),
     Refused(Refusal),
+}
+
+impl Yielded {
+    // Its number in document 01's table.
+    pub fn number(self) -> u8
+        ensures { λ r. ⌜ r ≡ yieldedNumber self ⌝ }
+    {
+        match self {
+            Yielded::At(_) => 0,
+            Yielded::Refused(why) => why.number(),
+        }
+    }
+
+    // The place of the match's header in the run, 0 if refused.
+    pub fn place(self) -> usize
+        ensures { λ r. ⌜ r ≡ yieldedPlace self ⌝ }
+    {
+        match self {
+            Yielded::At(place) => place,
+            Yielded::Refused(_) => 0,
+        }
+    }
 }
