@@ -1,0 +1,166 @@
+// One page, on a slice of its words: header fields, the walk, the page's kind, its live words, and
+// what a recovery page is. Promises are the definitions of `rules`.
+//
+// Every function here is proved, and none has a `requires`.
+ghost use mathlib.Core.Path.{_≡_};
+ghost use Prim.Native.Nat.{_-_, _≤_, _<_};
+ghost use lib.ListN.{length, drop};
+ghost use Rattle.rules.specs.Words.{handleOf, lengthOf};
+ghost use Rattle.rules.specs.Walk.{stop, allBlank, metaRight, kindOf};
+ghost use Rattle.rules.specs.Areas.{recoveryOf, liveWords};
+ghost use Rattle.pages.specs.Steps.{lengthAt, entriesAt, counted};
+use rules::Kind;
+use rules::PageSize;
+use rules::Recovery;
+
+// A word that nothing was stored to since its page was erased.
+pub const BLANK: u32 = 0xFFFF_FFFF;
+// The word behind a page's entries.
+pub const SEAL: u32 = 0x7FFF_FFFF;
+// A page's word 0.
+pub const META0: u32 = 0x1010_0408;
+// The first of the special handles, which no entry has.
+pub const SPECIAL: u32 = 0x7F00;
+
+// The handle in a header.
+pub fn handle_of(word: u32) -> u32
+    ensures { λ r. ⌜ (r ≡ handleOf word) × (r < 65536) ⌝ }
+{
+    word / 65536
+}
+
+// The length in a header.
+pub fn length_of(word: u32) -> usize
+    ensures { λ r. ⌜ (r ≡ lengthOf word) × (r < 65536) ⌝ }
+{
+    (word % 65536) as usize
+}
+
+// The length of the entry that begins at a place of a page, 0 if none does.
+pub fn length_at(page: &[u32], at: usize) -> usize
+    ensures { λ r. ⌜ (r ≡ lengthAt (now (page .entry)) at) × (r ≤ length (now (page .entry)) - at - 1) ⌝ }
+{
+    if page.len() <= at {
+        return 0;
+    }
+    let word = page[at];
+    let handle = handle_of(word);
+    let length = length_of(word);
+    let left = page.len() - at - 1;
+    if (handle < SPECIAL) & ((1 <= length) & ((length <= PageSize::LONGEST) & (length <= left))) {
+        return length;
+    }
+    0
+}
+
+// The place where the walk of a page stops.
+pub fn stop(page: &[u32]) -> usize
+    ensures { λ r. ⌜ (r ≡ stop (now (page .entry))) × (r ≤ length (now (page .entry))) ⌝ }
+{
+    if page.len() < 2 {
+        return page.len();
+    }
+    let mut at: usize = 2;
+    loop {
+        let length = length_at(page, at);
+        if length == 0 {
+            return at;
+        }
+        at += length;
+    }
+}
+
+// Whether all words of a page from a place on are blank.
+pub fn blank_from(page: &[u32], at: usize) -> bool
+    ensures { λ r. ⌜ r ≡ allBlank (drop at (now (page .entry))) ⌝ }
+{
+    let mut i = at;
+    while i < page.len() {
+        if page[i] != BLANK {
+            return false;
+        }
+        i += 1;
+    }
+    true
+}
+
+// Whether a page has the metadata of the page with the index in an area of so many pages.
+fn meta_right(page: &[u32], pages: u32, index: u32) -> bool
+    ensures { λ r. ⌜ r ≡ metaRight pages index (now (page .entry)) ⌝ }
+{
+    let wanted = 0xFFFF_0000u64 + 256 * (index as u64) + (pages as u64);
+    let first = flash::word(page, 0);
+    let second = flash::word(page, 1);
+    (first == META0) & (second as u64 == wanted)
+}
+
+// What the page with the index in an area of so many pages is.
+pub fn kind_of(page: &[u32], pages: u32, index: u32) -> Kind
+    ensures { λ r. ⌜ r ≡ kindOf pages index (now (page .entry)) ⌝ }
+{
+    if !meta_right(page, pages, index) {
+        return Kind::Neither;
+    }
+    let at = stop(page);
+    if page.len() <= at {
+        return Kind::Neither;
+    }
+    if !blank_from(page, at + 1) {
+        return Kind::Neither;
+    }
+    let end = page[at];
+    if end == SEAL {
+        return Kind::Sealed;
+    }
+    if end == BLANK {
+        return Kind::Torn;
+    }
+    Kind::Neither
+}
+
+// What the recovery page of an area of so many pages is.
+pub fn recovery_of(page: &[u32], pages: u32) -> Recovery
+    ensures { λ r. ⌜ r ≡ recoveryOf pages (now (page .entry)) ⌝ }
+{
+    if blank_from(page, 0) {
+        return Recovery::Free;
+    }
+    let word = flash::word(page, 1);
+    if word == BLANK {
+        return Recovery::Unfinished;
+    }
+    let index = word / 256 % 256;
+    if pages <= index {
+        return Recovery::Damage;
+    }
+    if kind_of(page, pages, index).is_sealed() {
+        return Recovery::Committed(index as usize);
+    }
+    Recovery::Damage
+}
+
+// What an entry counts as live words: its length, if it is live.
+fn counted(handle: u32, length: usize) -> usize
+    ensures { λ r. ⌜ (r ≡ counted handle length) × (r ≤ length) ⌝ }
+{
+    if handle == 0 { 0 } else { length }
+}
+
+// The live words of a page.
+pub fn live_words(page: &[u32]) -> usize
+    ensures { λ r. ⌜ (r ≡ liveWords (entriesAt (now (page .entry)) 2)) × (r ≤ length (now (page .entry))) ⌝ }
+{
+    if page.len() < 2 {
+        return 0;
+    }
+    let mut at: usize = 2;
+    let mut sum: usize = 0;
+    loop {
+        let length = length_at(page, at);
+        if length == 0 {
+            return sum;
+        }
+        sum += counted(handle_of(page[at]), length);
+        at += length;
+    }
+}
