@@ -21,7 +21,7 @@ use Rattle.rules.specs.Words.{header, special, isLive, seal}
 use Rattle.rules.specs.Walk.{Item, entryLength, codes, items}
 use Rattle.rules.specs.Areas.{base, page, Entry, placed, entriesFrom, entries, anyOf, firstOf, liveOf, twice, find, dataOf, mapOf, ready}
 use Rattle.rules.specs.Refusals.{badHandle, isNone, findChecks}
-use Rattle.rules.specs.Search.{placeOf, dataLength, readOf, matches, next, badPlace, searchChecks, searchOf}
+use Rattle.rules.specs.Search.{placeOf, dataLength, readOf, next, badPlace, searchChecks, searchOf, wanted, isAt}
 use Rattle.rules.specs.Laws.{and-left, and-right, passed-checked, checked-passed}
 use Rattle.rules.specs.Places.{base-suc, length-page, page-in}
 use Rattle.demands.specs.Terms.{StandsAt, blanks, Goods}
@@ -213,25 +213,21 @@ unfolding mapOf
 live-map a f pre e suf q t l =
     rw q (look-add (e .handle) pre e suf l (once-apart pre e suf (rw q at t)) ∙ rw (eq-eqb (e .handle) (e .handle) refl))
 
--- a match behind the place
-abbrev wanted : ℕ → ℕ → ℕ → Entry → Bool
-wanted mask pattern place e = ltb place (e .place) && matches mask pattern e
-
 -- an entry's place is one to go on from
 pub entry-place : (a : Area) (f : List ℕ) (pre : List Entry) (e : Entry) (suf : List Entry) → entries a f ≡ pre ++ e ∷ suf → badPlace a f (e .place) ≡ false
 unfolding badPlace
 entry-place a f pre e suf q =
-    rw (q, any-at (λ c. eqb (c .place) (e .place)) pre e suf (eq-eqb (e .place) (e .place) refl)) (and-false (not (eqb (e .place) 0)))
+    rw (q, any-at (isAt (e .place)) pre e suf (eq-eqb (e .place) (e .place) refl)) (and-false (not (eqb (e .place) 0)))
 
 -- and there is no other but 0
 pub place-entry : (a : Area) (f : List ℕ) (p : ℕ) → badPlace a f p ≡ false → (p ≡ 0) ⊎ ((pre : List Entry) × (e : Entry) × (suf : List Entry) × (entries a f ≡ pre ++ e ∷ suf) × (e .place ≡ p))
 unfolding badPlace
-place-entry a f p q = go (eqb p 0) refl (anyOf (λ e. eqb (e .place) p) (entries a f)) refl
+place-entry a f p q = go (eqb p 0) refl (anyOf (isAt p) (entries a f)) refl
   where
-    go : (b : Bool) → eqb p 0 ≡ b → (c : Bool) → anyOf (λ e. eqb (e .place) p) (entries a f) ≡ c
+    go : (b : Bool) → eqb p 0 ≡ b → (c : Bool) → anyOf (isAt p) (entries a f) ≡ c
         → (p ≡ 0) ⊎ ((pre : List Entry) × (e : Entry) × (suf : List Entry) × (entries a f ≡ pre ++ e ∷ suf) × (e .place ≡ p))
     go true x c y = inl (eqb-true p 0 x)
-    go false x true y = let w = any-some (λ e. eqb (e .place) p) (entries a f) y in inr (w .0, w .1, w .2, w .3, eqb-true (w .1 .place) p (w .4))
+    go false x true y = let w = any-some (isAt p) (entries a f) y in inr (w .0, w .1, w .2, w .3, eqb-true (w .1 .place) p (w .4))
     go false x false y = absurd (true≢false (rw (x, y) at q))
 
 module _ {a : Area} {f : List ℕ} (mask pattern place : ℕ) where

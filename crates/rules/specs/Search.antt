@@ -32,13 +32,21 @@ readOf a h f = let e = find h (entries a f) in checked Reading.Refused (findChec
 abbrev pub matches : ℕ → ℕ → Entry → Bool
 matches mask pattern e = isLive (e .handle) && eqb (bitAnd (e .handle) mask) (bitAnd pattern mask)
 
--- the next match behind a place; places grow in area order
+-- a match behind a place; places grow in area order
+abbrev pub wanted : ℕ → ℕ → ℕ → Entry → Bool
+wanted mask pattern place e = ltb place (e .place) && matches mask pattern e
+
+-- the next one
 unfoldable pub next : Area → List ℕ → ℕ → ℕ → ℕ → Option Entry
-next a f mask pattern place = firstOf (λ e. ltb place (e .place) && matches mask pattern e) (entries a f)
+next a f mask pattern place = firstOf (wanted mask pattern place) (entries a f)
+
+-- whether an entry's header is at a place
+abbrev pub isAt : ℕ → Entry → Bool
+isAt place e = eqb (e .place) place
 
 -- BADPLACE
 unfoldable pub badPlace : Area → List ℕ → ℕ → Bool
-badPlace a f place = not (eqb place 0) && not (anyOf (λ e. eqb (e .place) place) (entries a f))
+badPlace a f place = not (eqb place 0) && not (anyOf (isAt place) (entries a f))
 
 abbrev pub searchChecks : Area → List ℕ → ℕ → ℕ → ℕ → List (Bool × Refusal)
 searchChecks a f mask pattern place = readyChecks a f ((badPlace a f place, BadPlace) ∷ (isNone (next a f mask pattern place), NotFound) ∷ [])
