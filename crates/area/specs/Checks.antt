@@ -1,20 +1,23 @@
 -- The geometry, pages one behind the other, and the checks of a request, from what a function has found: laws. Assumes nothing.
-use mathlib.Core.Path.{_≡_, sym, _∙_}
+use mathlib.Core.Path.{_≡_, refl, ap, sym, _∙_}
 use mathlib.Core.List.{List}
-use mathlib.Core.Bool.{true, not}
-use Prim.Native.Nat.{ℕ, suc, _+_, _-_, _*_, _≤_, _<_}
+use mathlib.Core.Bool.{Bool, true, false, not, _&&_, _||_}
+use Prim.Native.Nat.{ℕ, suc, zero, _+_, _-_, _*_, _≤_, _<_}
 use native.Mathlib.Omega.{arith}
 use native.Mathlib.Nat.{mul-le-mul-right, suc-mul}
+use native.Mathlib.Numerals.{add-one}
 use lib.ListN.{length, take, drop}
 use lib.Dec.{eqb}
-use borrow.Author.Tests.{le-leb, lt-leb}
+use borrow.Author.Tests.{le-leb, lt-leb, not-true, not-false}
 use mir.Syntax.{w64}
 use mir.Val.{Fits}
 use Rattle.rules.specs.declared.Area.{Area}
 use Rattle.rules.specs.declared.PageSize.{PageSize}
 use Rattle.rules.specs.declared.FoundSize.{FoundSize}
+use Rattle.rules.specs.declared.Recovery.{Recovery}
 use Rattle.rules.specs.Words.{wordsOf, sizeOf}
-use Rattle.rules.specs.Areas.{base, page}
+use Rattle.rules.specs.Walk.{isSealed, isSound}
+use Rattle.rules.specs.Areas.{base, page, kind, every, recovery, isFree, isDamage, names, entries, twice, damaged, ready}
 use Rattle.rules.specs.Refusals.{wrongGeometry}
 use Rattle.rules.specs.Laws.{size-words}
 use Rattle.rules.specs.Places.{Right, base-suc, length-page, page-in}
@@ -82,3 +85,71 @@ module _ {a : Area} {f : List ℕ} (i : ℕ) (r : Right a f) (h : i ≤ a .pages
   bytes-fit = record { fits = omega (arith, near) }
 
 pub ruleset parts = (page-cut, page-ends, page-long, base-fits, end-fits, bytes-fit)
+
+-- ---- a test of the pages one behind the other has come to a page
+pub record Testing (t : ℕ → Bool) (n i : ℕ) : Type 0 where
+  pub rest : ℕ
+  pub sum : rest + i ≡ n
+  pub same : every t rest i ≡ every t n 0
+
+pub testing-start : {t : ℕ → Bool} {n : ℕ} → Testing t n 0
+testing-start {t} {n} = record { rest = n; sum = omega arith; same = refl }
+
+one-more : (t : ℕ → Bool) (n i k : ℕ) → t i ≡ true → i < n → k + i ≡ n → every t k i ≡ every t n 0 → Testing t n (i + 1)
+one-more t n i zero q h s e = absurd (let z : ⊥ = omega arith in z)
+one-more t n i (suc k) q h s e = record { rest = k; sum = omega arith; same = rw add-one (rw q at e) }
+
+fails : (t : ℕ → Bool) (n i k : ℕ) → t i ≡ false → i < n → k + i ≡ n → every t k i ≡ every t n 0 → false ≡ every t n 0
+fails t n i zero q h s e = absurd (let z : ⊥ = omega arith in z)
+fails t n i (suc k) q h s e = rw q at e
+
+none-left : (t : ℕ → Bool) (n i k : ℕ) → n ≤ i → k + i ≡ n → every t k i ≡ every t n 0 → true ≡ every t n 0
+none-left t n i zero h s e = e
+none-left t n i (suc k) h s e = absurd (let z : ⊥ = omega arith in z)
+
+module _ {t : ℕ → Bool} {n i : ℕ} (s : Testing t n i) where
+  pub testing-end : n ≤ i → true ≡ every t n 0
+  testing-end h = none-left t n i (s .rest) h (s .sum) (s .same)
+
+  module _ {b : Bool} (h : i < n) (q : b ≡ t i) where
+    pub testing-on : b ≡ true → Testing t n (i + 1)
+    testing-on y = one-more t n i (s .rest) (sym q ∙ y) h (s .sum) (s .same)
+
+    pub testing-fails : b ≡ false → false ≡ every t n 0
+    testing-fails y = fails t n i (s .rest) (sym q ∙ y) h (s .sum) (s .same)
+
+-- ---- damaged, ready
+abbrev pub soundOrNamed : Area → List ℕ → ℕ → Bool
+soundOrNamed a f i = names (recovery a f) i || isSound (kind a f i)
+
+abbrev pub sealedAt : Area → List ℕ → ℕ → Bool
+sealedAt a f i = isSealed (kind a f i)
+
+module _ {b : Bool} {r : Recovery} (a : Area) (f : List ℕ) (q : r ≡ recovery a f) (e : b ≡ isDamage r) where
+  pub damaged-r : b ≡ true → true ≡ damaged a f
+  unfolding damaged
+  damaged-r t = let d : isDamage (recovery a f) ≡ true = ap isDamage (sym q) ∙ sym e ∙ t in rw d
+
+  pub damaged-pages : {c : Bool} → b ≡ false → c ≡ every (soundOrNamed a f) (a .pages) 0 → not c ≡ damaged a f
+  unfolding damaged
+  damaged-pages t p = let d : isDamage (recovery a f) ≡ false = ap isDamage (sym q) ∙ sym e ∙ t in rw (d, p)
+
+module _ {b : Bool} {r : Recovery} (a : Area) (f : List ℕ) (q : r ≡ recovery a f) (e : b ≡ isFree r) where
+  pub unready-r : b ≡ false → false ≡ ready a f
+  unfolding ready
+  unready-r t = let d : isFree (recovery a f) ≡ false = ap isFree (sym q) ∙ sym e ∙ t in rw d
+
+  module _ {c : Bool} (t : b ≡ true) (p : c ≡ every (sealedAt a f) (a .pages) 0) where
+    by-pages : ready a f ≡ c && not (twice (entries a f))
+    unfolding ready
+    by-pages = let d : isFree (recovery a f) ≡ true = ap isFree (sym q) ∙ sym e ∙ t in rw (d, p)
+
+    pub unready-pages : c ≡ false → false ≡ ready a f
+    unready-pages y = sym (rw y at by-pages)
+
+    pub ready-once : {d : Bool} → c ≡ true → d ≡ twice (entries a f) → not d ≡ ready a f
+    ready-once y z = sym (rw (y, ← z) at by-pages)
+
+pub ruleset pages = (not-true, not-false, testing-start, testing-end, testing-on, testing-fails)
+
+pub ruleset states = (not-true, not-false, damaged-r, damaged-pages, unready-r, unready-pages, ready-once)

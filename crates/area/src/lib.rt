@@ -3,17 +3,19 @@
 //
 // Every function here is proved. `wrong_geometry` and the two that check take any area; the others
 // ask for a right geometry, which is what those have tested.
-ghost use mathlib.Core.Bool.{_&&_};
+ghost use mathlib.Core.Bool.{_&&_, _||_};
 ghost use mathlib.Core.Path.{_≡_};
 ghost use Prim.Native.Nat.{_≤_, _<_};
 ghost use lib.Bits.{bitAnd};
 ghost use lib.Dec.{eqb};
 ghost use lib.ListN.{length, take};
 ghost use Rattle.rules.specs.Words.{isLive};
-ghost use Rattle.rules.specs.Areas.{page, kind, recovery, entries, anyOf, liveOf, twice, find};
+ghost use Rattle.rules.specs.Walk.{isSound};
+ghost use Rattle.rules.specs.Areas.{page, kind, every, recovery, names, entries, anyOf, liveOf, twice, damaged, ready, find};
 ghost use Rattle.rules.specs.Refusals.{wrongGeometry};
 ghost use Rattle.rules.specs.Search.{next, badPlace};
 ghost use Rattle.rules.specs.Places.{Right};
+ghost use Rattle.area.specs.Checks.{soundOrNamed, sealedAt};
 ghost use Rattle.area.specs.Ahead.{foundOf, onward, ahead, behind, Ends, Sound, Settled};
 use rules::Area;
 use rules::FoundSize;
@@ -244,4 +246,76 @@ pub fn bad_place(flash: &[u32], area: Area, start: usize) -> bool
         cursor = after(flash, area, cursor);
     }
     true
+}
+
+// Whether a page is sealed or torn, or R names it.
+fn sound_or_named(flash: &[u32], area: Area, found: Recovery, index: usize) -> bool
+    requires { ⌜ Right area (now flash) × (found ≡ recovery area (now flash)) × (index < area .pages) ⌝ }
+    ensures { λ r. ⌜ r ≡ soundOrNamed area (now (flash .entry)) index ⌝ }
+{
+    found.names(index) | page_kind(flash, area, index).is_sound()
+}
+
+// Whether all pages are sealed or torn, but the one that R names.
+fn all_sound(flash: &[u32], area: Area, found: Recovery) -> bool
+    requires { ⌜ Right area (now flash) × (found ≡ recovery area (now flash)) ⌝ }
+    ensures { λ r. ⌜ r ≡ every (soundOrNamed area (now (flash .entry))) (area .pages) 0 ⌝ }
+{
+    let mut i: usize = 0;
+    while i < area.pages {
+        if !sound_or_named(flash, area, found, i) {
+            return false;
+        }
+        i += 1;
+    }
+    true
+}
+
+// Whether a page is sealed.
+fn sealed_at(flash: &[u32], area: Area, index: usize) -> bool
+    requires { ⌜ Right area (now flash) × (index < area .pages) ⌝ }
+    ensures { λ r. ⌜ r ≡ sealedAt area (now (flash .entry)) index ⌝ }
+{
+    page_kind(flash, area, index).is_sealed()
+}
+
+// Whether all pages are sealed.
+fn all_sealed(flash: &[u32], area: Area) -> bool
+    requires { ⌜ Right area (now flash) ⌝ }
+    ensures { λ r. ⌜ r ≡ every (sealedAt area (now (flash .entry))) (area .pages) 0 ⌝ }
+{
+    let mut i: usize = 0;
+    while i < area.pages {
+        if !sealed_at(flash, area, i) {
+            return false;
+        }
+        i += 1;
+    }
+    true
+}
+
+// Whether the area is damaged.
+pub fn damaged(flash: &[u32], area: Area) -> bool
+    requires { ⌜ Right area (now flash) ⌝ }
+    ensures { λ r. ⌜ r ≡ damaged area (now (flash .entry)) ⌝ }
+{
+    let recovery = recovery_kind(flash, area);
+    if recovery.is_damage() {
+        return true;
+    }
+    !all_sound(flash, area, recovery)
+}
+
+// Whether the area is ready.
+pub fn ready(flash: &[u32], area: Area) -> bool
+    requires { ⌜ Right area (now flash) ⌝ }
+    ensures { λ r. ⌜ r ≡ ready area (now (flash .entry)) ⌝ }
+{
+    if !recovery_kind(flash, area).is_free() {
+        return false;
+    }
+    if !all_sealed(flash, area) {
+        return false;
+    }
+    !live_twice(flash, area)
 }

@@ -1,0 +1,47 @@
+-- `all_sound` asks one page behind the other. Assumes nothing.
+use Prim.Native.Nat.{_-_}
+use borrow.Author.Needs.{needs}
+use Rattle.area.specs.Checks.{soundOrNamed, Testing, pages}
+use Rattle.area.proofs.all_sound.Statement.{statement}
+use Rattle.area.proofs.all_sound.Tie as tie
+
+abbrev Inv-loop : tie.InvT-loop
+Inv-loop flash area found i₀ i = Testing (soundOrNamed area flash) (area .pages) i
+
+abbrev μ-loop : tie.MeasureT-loop
+μ-loop flash area found i₀ i = area .pages - i
+
+loop-holds : tie.Need-loop-holds Inv-loop μ-loop
+loop-holds c = search (needs, pages)
+
+sound-or-named-requires : tie.Need-sound-or-named-requires Inv-loop μ-loop
+sound-or-named-requires c κs = search (needs, pages)
+
+returns : tie.Need-returns Inv-loop μ-loop
+returns c = search (needs, pages)
+
+add-i : tie.Need-add-i Inv-loop μ-loop
+add-i c = search (needs, pages)
+
+loop-less : tie.Need-loop-less Inv-loop μ-loop
+loop-less c = search (needs, pages)
+
+loop-again : tie.Need-loop-again Inv-loop μ-loop
+loop-again c = search (needs, pages)
+
+returns-2 : tie.Need-returns-2 Inv-loop μ-loop
+returns-2 c = search (needs, pages)
+
+pub all-sound-spec : {M : Type 1} → statement M
+all-sound-spec =
+    tie.close
+    (tie.spec
+    Inv-loop
+    μ-loop
+    loop-holds
+    sound-or-named-requires
+    returns
+    add-i
+    loop-less
+    loop-again
+    returns-2)
