@@ -3,19 +3,19 @@
 //
 // Every function here is proved. `wrong_geometry` and the two that check take any area; the others
 // ask for a right geometry, which is what those have tested.
-ghost use mathlib.Core.Bool.{_&&_, _||_};
+ghost use mathlib.Core.Bool.{_&&_};
+ghost use mathlib.Core.List.{[]};
 ghost use mathlib.Core.Path.{_≡_};
 ghost use Prim.Native.Nat.{_≤_, _<_};
 ghost use lib.Bits.{bitAnd};
 ghost use lib.Dec.{eqb};
 ghost use lib.ListN.{length, take};
 ghost use Rattle.rules.specs.Words.{isLive};
-ghost use Rattle.rules.specs.Walk.{isSound};
 ghost use Rattle.rules.specs.Areas.{page, kind, every, recovery, names, entries, anyOf, liveOf, twice, damaged, ready, find};
-ghost use Rattle.rules.specs.Refusals.{wrongGeometry};
+ghost use Rattle.rules.specs.Refusals.{wrongGeometry, recoverChecks, readyChecks};
 ghost use Rattle.rules.specs.Search.{next, badPlace};
 ghost use Rattle.rules.specs.Places.{Right};
-ghost use Rattle.area.specs.Checks.{soundOrNamed, sealedAt};
+ghost use Rattle.area.specs.Checks.{soundOrNamed, sealedAt, checksOf};
 ghost use Rattle.area.specs.Ahead.{foundOf, onward, ahead, behind, Ends, Sound, Settled};
 use rules::Area;
 use rules::FoundSize;
@@ -318,4 +318,39 @@ pub fn ready(flash: &[u32], area: Area) -> bool
         return false;
     }
     !live_twice(flash, area)
+}
+
+// What the checks that a request begins with give.
+pub enum Checked {
+    Passed,
+    Refused(Refusal),
+}
+
+// The checks of a recovery: GEOMETRY, DAMAGED.
+pub fn check_undamaged(flash: &[u32], area: Area) -> Checked
+    ensures { λ r. ⌜ r ≡ checksOf (recoverChecks area (now (flash .entry))) ⌝ }
+{
+    if wrong_geometry(flash, area) {
+        return Checked::Refused(Refusal::Geometry);
+    }
+    if damaged(flash, area) {
+        return Checked::Refused(Refusal::Damaged);
+    }
+    Checked::Passed
+}
+
+// The checks that write, read, delete and search begin with: GEOMETRY, DAMAGED, UNREADY.
+pub fn check_ready(flash: &[u32], area: Area) -> Checked
+    ensures { λ r. ⌜ r ≡ checksOf (readyChecks area (now (flash .entry)) []) ⌝ }
+{
+    match check_undamaged(flash, area) {
+        Checked::Refused(why) => Checked::Refused(why),
+        Checked::Passed => {
+            if ready(flash, area) {
+                Checked::Passed
+            } else {
+                Checked::Refused(Refusal::Unready)
+            }
+        }
+    }
 }
