@@ -1,0 +1,97 @@
+-- What read and search answer, from what the area's functions have found: laws; and that no promise allows two answers. Assumes nothing.
+use mathlib.Core.Path.{_≡_, refl, sym, ap, _∙_}
+use mathlib.Core.List.{List, [], _∷_}
+use mathlib.Core.Bool.{Bool, true, false, cond, _||_}
+use mathlib.Core.Option.{Option, some, none}
+use Prim.Native.Nat.{ℕ}
+use native.Mathlib.Omega.{arith}
+use lib.Dec.{leb, eqb}
+use Rattle.flash.specs.Laws.{settled}
+use Rattle.rules.specs.declared.Area.{Area}
+use Rattle.rules.specs.declared.Refusal.{Refusal}
+use Rattle.rules.specs.declared.Refusal.the-variants.{BadHandle, NotFound, BadPlace}
+use Rattle.rules.specs.declared.Reading.{Reading}
+use Rattle.rules.specs.declared.Yielded.{Yielded}
+use Rattle.rules.specs.Areas.{Entry, entries, find}
+use Rattle.rules.specs.Refusals.{badHandle, isNone, checked, readyChecks}
+use Rattle.rules.specs.Search.{placeOf, dataLength, readOf, next, badPlace, searchOf}
+use Rattle.area.specs.declared.Checked.{Checked}
+use Rattle.area.specs.declared.Found.{Found}
+use Rattle.area.specs.Checks.{checksOf, ready-refused, ready-on, ready-right}
+use Rattle.area.specs.Ahead.{foundOf}
+
+-- ---- what is found
+found-none : (o : Option Entry) → foundOf o ≡ Found.None → isNone o ≡ true
+found-none none e = refl
+found-none (some d) e = absurd (let z : _≡_ {A = ℕ} 0 1 = cc in let y : ⊥ = omega arith in y)
+
+found-some : {p n : ℕ} (o : Option Entry) → foundOf o ≡ Found.At p n → (isNone o ≡ false) × (placeOf o ≡ p) × (dataLength o ≡ n)
+found-some none e = absurd (let z : _≡_ {A = ℕ} 0 1 = cc in let y : ⊥ = omega arith in y)
+found-some (some d) e = (refl, cc, cc)
+
+-- ---- read
+module _ {k : Checked} (a : Area) (f : List ℕ) (h : ℕ) (e : k ≡ checksOf (readyChecks a f [])) where
+  abbrev entry : Option Entry
+  entry = find h (entries a f)
+
+  abbrev read : Reading
+  read = Reading.At (placeOf entry) (dataLength entry)
+
+  abbrev own : List (Bool × Refusal)
+  own = (badHandle h, BadHandle) ∷ (isNone entry, NotFound) ∷ []
+
+  pub read-refused : {n : Refusal} → k ≡ Checked.Refused n → Reading.Refused n ≡ readOf a h f
+  read-refused q = ready-refused Reading.Refused a f own read e q
+
+  module _ {b : Bool} (q : k ≡ Checked.Passed) (c : b ≡ badHandle h) where
+    read-by : readOf a h f ≡ cond b (Reading.Refused BadHandle) (cond (isNone entry) (Reading.Refused NotFound) read)
+    read-by = rw c (ready-on Reading.Refused a f own read e q)
+
+    pub read-bad-handle : b ≡ true → Reading.Refused BadHandle ≡ readOf a h f
+    read-bad-handle t = sym (rw t at read-by)
+
+    module _ {r : Found} (t : b ≡ false) (d : r ≡ foundOf (find h (entries a f))) where
+      pub read-none : r ≡ Found.None → Reading.Refused NotFound ≡ readOf a h f
+      read-none g = sym (read-by ∙ rw (t, found-none entry (sym d ∙ g)))
+
+      pub read-at : {p n : ℕ} → r ≡ Found.At p n → Reading.At p n ≡ readOf a h f
+      read-at g = let w = found-some entry (sym d ∙ g) in sym (read-by ∙ rw (t, w .0, w .1, w .2))
+
+pub ruleset reads = (ready-right, read-refused, read-bad-handle, read-none, read-at)
+
+-- ---- search
+module _ {k : Checked} (a : Area) (f : List ℕ) (mask pattern place : ℕ) (e : k ≡ checksOf (readyChecks a f [])) where
+  abbrev match : Option Entry
+  match = next a f mask pattern place
+
+  abbrev yielded : Yielded
+  yielded = Yielded.At (placeOf match)
+
+  abbrev its : List (Bool × Refusal)
+  its = (badPlace a f place, BadPlace) ∷ (isNone match, NotFound) ∷ []
+
+  pub search-refused : {n : Refusal} → k ≡ Checked.Refused n → Yielded.Refused n ≡ searchOf a mask pattern place f
+  search-refused q = ready-refused Yielded.Refused a f its yielded e q
+
+  module _ {b : Bool} (q : k ≡ Checked.Passed) (c : b ≡ badPlace a f place) where
+    search-by : searchOf a mask pattern place f ≡ cond b (Yielded.Refused BadPlace) (cond (isNone match) (Yielded.Refused NotFound) yielded)
+    search-by = rw c (ready-on Yielded.Refused a f its yielded e q)
+
+    pub search-bad-place : b ≡ true → Yielded.Refused BadPlace ≡ searchOf a mask pattern place f
+    search-bad-place t = sym (rw t at search-by)
+
+    module _ {r : Found} (t : b ≡ false) (d : r ≡ foundOf (next a f mask pattern place)) where
+      pub search-none : r ≡ Found.None → Yielded.Refused NotFound ≡ searchOf a mask pattern place f
+      search-none g = sym (search-by ∙ rw (t, found-none match (sym d ∙ g)))
+
+      pub search-at : {p n : ℕ} → r ≡ Found.At p n → Yielded.At p ≡ searchOf a mask pattern place f
+      search-at g = let w = found-some match (sym d ∙ g) in sym (search-by ∙ rw (t, w .0, w .1))
+
+pub ruleset searches = (ready-right, search-refused, search-bad-place, search-none, search-at)
+
+-- ---- one answer, and no other
+pub read-settles : (a : Area) (h : ℕ) (f : List ℕ) {r s : Reading} → r ≡ readOf a h f → s ≡ readOf a h f → r ≡ s
+read-settles a h f = settled
+
+pub search-settles : (a : Area) (mask pattern place : ℕ) (f : List ℕ) {r s : Yielded} → r ≡ searchOf a mask pattern place f → s ≡ searchOf a mask pattern place f → r ≡ s
+search-settles a mask pattern place f = settled
