@@ -11,7 +11,8 @@ ghost use lib.Bits.{bitAnd};
 ghost use lib.Dec.{eqb};
 ghost use lib.ListN.{length, take};
 ghost use Rattle.rules.specs.Words.{isLive};
-ghost use Rattle.rules.specs.Areas.{page, kind, every, recovery, names, entries, anyOf, liveOf, twice, damaged, ready, find};
+ghost use Rattle.rules.specs.Walk.{isSealed, isSound};
+ghost use Rattle.rules.specs.Areas.{page, kind, every, recovery, isFree, isDamage, names, entries, anyOf, liveOf, twice, damaged, ready, find};
 ghost use Rattle.rules.specs.Refusals.{wrongGeometry, recoverChecks, readyChecks};
 ghost use Rattle.rules.specs.Search.{next, badPlace};
 ghost use Rattle.rules.specs.Places.{Right};
@@ -248,12 +249,70 @@ pub fn bad_place(flash: &[u32], area: Area, start: usize) -> bool
     true
 }
 
+// Whether a page is sealed.
+fn is_sealed(found: Kind) -> bool
+    ensures { λ r. ⌜ r ≡ isSealed found ⌝ }
+{
+    match found {
+        Kind::Sealed => true,
+        Kind::Torn => false,
+        Kind::Neither => false,
+    }
+}
+
+// Whether a page is sealed or torn.
+fn is_sound(found: Kind) -> bool
+    ensures { λ r. ⌜ r ≡ isSound found ⌝ }
+{
+    match found {
+        Kind::Sealed => true,
+        Kind::Torn => true,
+        Kind::Neither => false,
+    }
+}
+
+// Whether R is free.
+fn is_free(found: Recovery) -> bool
+    ensures { λ r. ⌜ r ≡ isFree found ⌝ }
+{
+    match found {
+        Recovery::Free => true,
+        Recovery::Unfinished => false,
+        Recovery::Committed(_) => false,
+        Recovery::Damage => false,
+    }
+}
+
+// Whether R is damage.
+fn is_damage(found: Recovery) -> bool
+    ensures { λ r. ⌜ r ≡ isDamage found ⌝ }
+{
+    match found {
+        Recovery::Free => false,
+        Recovery::Unfinished => false,
+        Recovery::Committed(_) => false,
+        Recovery::Damage => true,
+    }
+}
+
+// Whether R is committed and names a page.
+fn names(found: Recovery, index: usize) -> bool
+    ensures { λ r. ⌜ r ≡ names found index ⌝ }
+{
+    match found {
+        Recovery::Free => false,
+        Recovery::Unfinished => false,
+        Recovery::Committed(named) => index == named,
+        Recovery::Damage => false,
+    }
+}
+
 // Whether a page is sealed or torn, or R names it.
 fn sound_or_named(flash: &[u32], area: Area, found: Recovery, index: usize) -> bool
     requires { ⌜ Right area (now flash) × (found ≡ recovery area (now flash)) × (index < area .pages) ⌝ }
     ensures { λ r. ⌜ r ≡ soundOrNamed area (now (flash .entry)) index ⌝ }
 {
-    found.names(index) | page_kind(flash, area, index).is_sound()
+    names(found, index) | is_sound(page_kind(flash, area, index))
 }
 
 // Whether all pages are sealed or torn, but the one that R names.
@@ -276,7 +335,7 @@ fn sealed_at(flash: &[u32], area: Area, index: usize) -> bool
     requires { ⌜ Right area (now flash) × (index < area .pages) ⌝ }
     ensures { λ r. ⌜ r ≡ sealedAt area (now (flash .entry)) index ⌝ }
 {
-    page_kind(flash, area, index).is_sealed()
+    is_sealed(page_kind(flash, area, index))
 }
 
 // Whether all pages are sealed.
@@ -299,11 +358,11 @@ pub fn damaged(flash: &[u32], area: Area) -> bool
     requires { ⌜ Right area (now flash) ⌝ }
     ensures { λ r. ⌜ r ≡ damaged area (now (flash .entry)) ⌝ }
 {
-    let recovery = recovery_kind(flash, area);
-    if recovery.is_damage() {
+    let found = recovery_kind(flash, area);
+    if is_damage(found) {
         return true;
     }
-    !all_sound(flash, area, recovery)
+    !all_sound(flash, area, found)
 }
 
 // Whether the area is ready.
@@ -311,7 +370,7 @@ pub fn ready(flash: &[u32], area: Area) -> bool
     requires { ⌜ Right area (now flash) ⌝ }
     ensures { λ r. ⌜ r ≡ ready area (now (flash .entry)) ⌝ }
 {
-    if !recovery_kind(flash, area).is_free() {
+    if !is_free(recovery_kind(flash, area)) {
         return false;
     }
     if !all_sealed(flash, area) {

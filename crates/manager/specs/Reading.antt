@@ -1,11 +1,10 @@
 -- What read and search answer, from what the area's functions have found: laws; and that no promise allows two answers. Assumes nothing.
-use mathlib.Core.Path.{_≡_, refl, sym, ap, _∙_}
+use mathlib.Core.Path.{_≡_, refl, sym, _∙_}
 use mathlib.Core.List.{List, [], _∷_}
-use mathlib.Core.Bool.{Bool, true, false, cond, _||_}
+use mathlib.Core.Bool.{Bool, true, false, cond}
 use mathlib.Core.Option.{Option, some, none}
 use Prim.Native.Nat.{ℕ}
 use native.Mathlib.Omega.{arith}
-use lib.Dec.{leb, eqb}
 use Rattle.flash.specs.Laws.{settled}
 use Rattle.rules.specs.declared.Area.{Area}
 use Rattle.rules.specs.declared.Refusal.{Refusal}
@@ -13,7 +12,7 @@ use Rattle.rules.specs.declared.Refusal.the-variants.{BadHandle, NotFound, BadP
 use Rattle.rules.specs.declared.Reading.{Reading}
 use Rattle.rules.specs.declared.Yielded.{Yielded}
 use Rattle.rules.specs.Areas.{Entry, entries, find}
-use Rattle.rules.specs.Refusals.{badHandle, isNone, checked, readyChecks}
+use Rattle.rules.specs.Refusals.{badHandle, isNone, readyChecks}
 use Rattle.rules.specs.Search.{placeOf, dataLength, readOf, next, badPlace, searchOf}
 use Rattle.area.specs.declared.Checked.{Checked}
 use Rattle.area.specs.declared.Found.{Found}

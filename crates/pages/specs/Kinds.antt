@@ -125,11 +125,17 @@ module _ {b : Bool} (n : ℕ) (r : List ℕ) (e : b ≡ allBlank (drop 0 r)) whe
       pub names-none : n ≤ indexOf w → Damage ≡ recoveryOf n r
       names-none h = sym (rw (ne-eqb w blank o, le-ltb (indexOf w) n h) at by-word)
 
-      module _ {k : Kind} {s : Bool} (h : indexOf w < n) (d : k ≡ kindOf n (indexOf w) r) (c : s ≡ isSealed k) where
-        pub is-committed : s ≡ true → Committed (indexOf w) ≡ recoveryOf n r
-        is-committed f = let g : isSealed (kindOf n (indexOf w) r) ≡ true = ap isSealed (sym d) ∙ sym c ∙ f in sym (rw (ne-eqb w blank o, lt-ltb (indexOf w) n h, g) at by-word)
+      module _ {k : Kind} (h : indexOf w < n) (d : k ≡ kindOf n (indexOf w) r) where
+        by-kind : (s : Bool) → isSealed k ≡ s → recoveryOf n r ≡ cond s (Committed (indexOf w)) Damage
+        by-kind s c = let g : isSealed (kindOf n (indexOf w) r) ≡ s = ap isSealed (sym d) ∙ c in by-word ∙ rw (ne-eqb w blank o, lt-ltb (indexOf w) n h, g)
 
-        pub is-damaged : s ≡ false → Damage ≡ recoveryOf n r
-        is-damaged f = let g : isSealed (kindOf n (indexOf w) r) ≡ false = ap isSealed (sym d) ∙ sym c ∙ f in sym (rw (ne-eqb w blank o, lt-ltb (indexOf w) n h, g) at by-word)
+        pub is-committed : k ≡ Sealed → Committed (indexOf w) ≡ recoveryOf n r
+        is-committed q = sym (by-kind true (ap isSealed q))
 
-pub ruleset recoveries = (is-free, is-unfinished, names-none, is-committed, is-damaged)
+        pub is-torn : k ≡ Torn → Damage ≡ recoveryOf n r
+        is-torn q = sym (by-kind false (ap isSealed q))
+
+        pub is-neither : k ≡ Neither → Damage ≡ recoveryOf n r
+        is-neither q = sym (by-kind false (ap isSealed q))
+
+pub ruleset recoveries = (is-free, is-unfinished, names-none, is-committed, is-torn, is-neither)

@@ -133,10 +133,11 @@ pub fn recovery_of(page: &[u32], pages: u32) -> Recovery
     if pages <= index {
         return Recovery::Damage;
     }
-    if kind_of(page, pages, index).is_sealed() {
-        return Recovery::Committed(index as usize);
+    match kind_of(page, pages, index) {
+        Kind::Sealed => Recovery::Committed(index as usize),
+        Kind::Torn => Recovery::Damage,
+        Kind::Neither => Recovery::Damage,
     }
-    Recovery::Damage
 }
 
 // What an entry counts as live words: its length, if it is live.
@@ -156,11 +157,11 @@ pub fn live_words(page: &[u32]) -> usize
     let mut at: usize = 2;
     let mut sum: usize = 0;
     loop {
-        let length = length_at(page, at);
-        if length == 0 {
+        let words = length_at(page, at);
+        if words == 0 {
             return sum;
         }
-        sum += counted(handle_of(page[at]), length);
-        at += length;
+        sum += counted(handle_of(page[at]), words);
+        at += words;
     }
 }

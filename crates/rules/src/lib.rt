@@ -5,8 +5,6 @@
 ghost use mathlib.Core.Path.{_≡_};
 ghost use Prim.Native.Nat.{_≤_};
 ghost use Rattle.rules.specs.Words.{wordsOf, sizeOf, openWords, quota, lastSeal};
-ghost use Rattle.rules.specs.Walk.{isSealed, isSound};
-ghost use Rattle.rules.specs.Areas.{isFree, isDamage, names};
 ghost use Rattle.rules.specs.Refusals.{refusalNumber, answerNumber, answerStores, readingNumber, readingPlace, readingWords, yieldedNumber, yieldedPlace};
 
 // An area: so many pages of so many words each, and behind them the recovery page. Any numbers may
@@ -91,74 +89,12 @@ pub enum Kind {
     Neither,
 }
 
-impl Kind {
-    // Whether the page is sealed.
-    pub fn is_sealed(self) -> bool
-        ensures { λ r. ⌜ r ≡ isSealed self ⌝ }
-    {
-        match self {
-            Kind::Sealed => true,
-            Kind::Torn => false,
-            Kind::Neither => false,
-        }
-    }
-
-    // Whether the page is sealed or torn.
-    pub fn is_sound(self) -> bool
-        ensures { λ r. ⌜ r ≡ isSound self ⌝ }
-    {
-        match self {
-            Kind::Sealed => true,
-            Kind::Torn => true,
-            Kind::Neither => false,
-        }
-    }
-}
-
 // What the recovery page is; a committed one names the index of a page.
 pub enum Recovery {
     Free,
     Unfinished,
     Committed(usize),
     Damage,
-}
-
-impl Recovery {
-    // Whether it is free.
-    pub fn is_free(self) -> bool
-        ensures { λ r. ⌜ r ≡ isFree self ⌝ }
-    {
-        match self {
-            Recovery::Free => true,
-            Recovery::Unfinished => false,
-            Recovery::Committed(_) => false,
-            Recovery::Damage => false,
-        }
-    }
-
-    // Whether it is damage.
-    pub fn is_damage(self) -> bool
-        ensures { λ r. ⌜ r ≡ isDamage self ⌝ }
-    {
-        match self {
-            Recovery::Free => false,
-            Recovery::Unfinished => false,
-            Recovery::Committed(_) => false,
-            Recovery::Damage => true,
-        }
-    }
-
-    // Whether it is committed and names the page with the index.
-    pub fn names(self, index: usize) -> bool
-        ensures { λ r. ⌜ r ≡ names self index ⌝ }
-    {
-        match self {
-            Recovery::Free => false,
-            Recovery::Unfinished => false,
-            Recovery::Committed(named) => index == named,
-            Recovery::Damage => false,
-        }
-    }
 }
 
 // Why a request was refused, by the names of document 01's table.

@@ -24,11 +24,17 @@ returns-3 c = search (needs, recoveries)
 kind-of-requires : tie.Need-kind-of-requires
 kind-of-requires c κs = search needs
 
-is-sealed-requires : tie.Need-is-sealed-requires
-is-sealed-requires c κs = search needs
+enum-told : tie.Need-enum-told
+enum-told c = search needs
 
 cast-t10 : tie.Need-cast-t10
 cast-t10 c = search needs
+
+enum-told-2 : tie.Need-enum-told-2
+enum-told-2 c = search needs
+
+enum-told-3 : tie.Need-enum-told-3
+enum-told-3 c = search needs
 
 returns-4 : tie.Need-returns-4
 unfolding indexOf
@@ -37,6 +43,10 @@ returns-4 c = search (needs, recoveries)
 returns-5 : tie.Need-returns-5
 unfolding indexOf
 returns-5 c = search (needs, recoveries)
+
+returns-6 : tie.Need-returns-6
+unfolding indexOf
+returns-6 c = search (needs, recoveries)
 
 pub recovery-of-spec : {M : Type 1} → statement M
 recovery-of-spec =
@@ -48,7 +58,10 @@ recovery-of-spec =
     returns-2
     returns-3
     kind-of-requires
-    is-sealed-requires
+    enum-told
     cast-t10
+    enum-told-2
+    enum-told-3
     returns-4
-    returns-5)
+    returns-5
+    returns-6)

@@ -1,7 +1,7 @@
--- `Recovery::names` compares the index with the one that a committed R names. Assumes nothing.
+-- `names` compares the index with the one that a committed R names. Assumes nothing.
 use borrow.Author.Needs.{needs}
-use Rattle.rules.proofs.Recovery.names.Statement.{statement}
-use Rattle.rules.proofs.Recovery.names.Tie as tie
+use Rattle.area.proofs.names.Statement.{statement}
+use Rattle.area.proofs.names.Tie as tie
 
 enum-told : tie.Need-enum-told
 enum-told c = search needs
@@ -9,8 +9,8 @@ enum-told c = search needs
 enum-told-2 : tie.Need-enum-told-2
 enum-told-2 c = search needs
 
-enum-known-self : tie.Need-enum-known-self
-enum-known-self c = search needs
+enum-known-found : tie.Need-enum-known-found
+enum-known-found c = search needs
 
 enum-told-3 : tie.Need-enum-told-3
 enum-told-3 c = search needs
@@ -22,7 +22,7 @@ returns-2 : tie.Need-returns-2
 returns-2 c = search needs
 
 returns-3 : tie.Need-returns-3
-returns-3 c = rw (c .before .self .given .1)
+returns-3 c = rw (c .before .found .given .1)
 
 returns-4 : tie.Need-returns-4
 returns-4 c = search needs
@@ -33,7 +33,7 @@ names-spec =
     (tie.spec
     enum-told
     enum-told-2
-    enum-known-self
+    enum-known-found
     enum-told-3
     returns
     returns-2
