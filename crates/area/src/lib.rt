@@ -10,13 +10,15 @@ ghost use Prim.Native.Nat.{_≤_, _<_};
 ghost use lib.Bits.{bitAnd};
 ghost use lib.Dec.{eqb};
 ghost use lib.ListN.{length, take};
-ghost use Rattle.rules.specs.Words.{isLive};
+ghost use Rattle.rules.specs.Words.{wordsOf, longest, isLive};
 ghost use Rattle.rules.specs.Walk.{isSealed, isSound};
-ghost use Rattle.rules.specs.Areas.{page, kind, every, recovery, isFree, isDamage, names, entries, anyOf, liveOf, twice, damaged, ready, find};
+ghost use Rattle.rules.specs.Areas.{page, kind, every, recovery, isFree, isDamage, names, entries, anyOf, liveOf, twice, damaged, ready, find, liveWords};
 ghost use Rattle.rules.specs.Refusals.{wrongGeometry, recoverChecks, readyChecks};
+ghost use Rattle.rules.specs.Lists.{roomPage, compactPage};
 ghost use Rattle.rules.specs.Search.{next, badPlace};
 ghost use Rattle.rules.specs.Places.{Right};
 ghost use Rattle.area.specs.Checks.{soundOrNamed, sealedAt, checksOf};
+ghost use Rattle.area.specs.Rooms.{foundPage};
 ghost use Rattle.area.specs.Ahead.{foundOf, onward, ahead, behind, Ends, Sound, Settled};
 use rules::Area;
 use rules::FoundSize;
@@ -24,6 +26,24 @@ use rules::Kind;
 use rules::PageSize;
 use rules::Recovery;
 use rules::Refusal;
+
+// What is found of an entry: the place of its header in the run, and the number of its data words.
+pub enum Found {
+    At { place: usize, words: usize },
+    None,
+}
+
+// The page that a search over pages has found, if one passes.
+pub enum FoundPage {
+    At(usize),
+    None,
+}
+
+// What the checks that a request begins with give.
+pub enum Checked {
+    Passed,
+    Refused(Refusal),
+}
 
 // Whether no such area fits the run: the number of pages, the page size or the run's length is wrong.
 pub fn wrong_geometry(flash: &[u32], area: Area) -> bool
@@ -71,10 +91,120 @@ pub fn recovery_kind(flash: &[u32], area: Area) -> Recovery
     pages::recovery_of(page_part(flash, area, area.pages), area.pages as u32)
 }
 
-// What is found of an entry: the place of its header in the run, and the number of its data words.
-pub enum Found {
-    At { place: usize, words: usize },
-    None,
+// Whether a page is sealed.
+fn is_sealed(found: Kind) -> bool
+    ensures { λ r. ⌜ r ≡ isSealed found ⌝ }
+{
+    match found {
+        Kind::Sealed => true,
+        Kind::Torn => false,
+        Kind::Neither => false,
+    }
+}
+
+// Whether a page is sealed or torn.
+fn is_sound(found: Kind) -> bool
+    ensures { λ r. ⌜ r ≡ isSound found ⌝ }
+{
+    match found {
+        Kind::Sealed => true,
+        Kind::Torn => true,
+        Kind::Neither => false,
+    }
+}
+
+// Whether R is free.
+fn is_free(found: Recovery) -> bool
+    ensures { λ r. ⌜ r ≡ isFree found ⌝ }
+{
+    match found {
+        Recovery::Free => true,
+        Recovery::Unfinished => false,
+        Recovery::Committed(_) => false,
+        Recovery::Damage => false,
+    }
+}
+
+// Whether R is damage.
+fn is_damage(found: Recovery) -> bool
+    ensures { λ r. ⌜ r ≡ isDamage found ⌝ }
+{
+    match found {
+        Recovery::Free => false,
+        Recovery::Unfinished => false,
+        Recovery::Committed(_) => false,
+        Recovery::Damage => true,
+    }
+}
+
+// Whether R is committed and names a page.
+fn names(found: Recovery, index: usize) -> bool
+    ensures { λ r. ⌜ r ≡ names found index ⌝ }
+{
+    match found {
+        Recovery::Free => false,
+        Recovery::Unfinished => false,
+        Recovery::Committed(named) => index == named,
+        Recovery::Damage => false,
+    }
+}
+
+// Whether a page is sealed or torn, or R names it.
+fn sound_or_named(flash: &[u32], area: Area, found: Recovery, index: usize) -> bool
+    requires { ⌜ Right area (now flash) × (found ≡ recovery area (now flash)) × (index < area .pages) ⌝ }
+    ensures { λ r. ⌜ r ≡ soundOrNamed area (now (flash .entry)) index ⌝ }
+{
+    names(found, index) | is_sound(page_kind(flash, area, index))
+}
+
+// Whether all pages are sealed or torn, but the one that R names.
+fn all_sound(flash: &[u32], area: Area, found: Recovery) -> bool
+    requires { ⌜ Right area (now flash) × (found ≡ recovery area (now flash)) ⌝ }
+    ensures { λ r. ⌜ r ≡ every (soundOrNamed area (now (flash .entry))) (area .pages) 0 ⌝ }
+{
+    let mut i: usize = 0;
+    while i < area.pages {
+        if !sound_or_named(flash, area, found, i) {
+            return false;
+        }
+        i += 1;
+    }
+    true
+}
+
+// Whether a page is sealed.
+fn sealed_at(flash: &[u32], area: Area, index: usize) -> bool
+    requires { ⌜ Right area (now flash) × (index < area .pages) ⌝ }
+    ensures { λ r. ⌜ r ≡ sealedAt area (now (flash .entry)) index ⌝ }
+{
+    is_sealed(page_kind(flash, area, index))
+}
+
+// Whether all pages are sealed.
+fn all_sealed(flash: &[u32], area: Area) -> bool
+    requires { ⌜ Right area (now flash) ⌝ }
+    ensures { λ r. ⌜ r ≡ every (sealedAt area (now (flash .entry))) (area .pages) 0 ⌝ }
+{
+    let mut i: usize = 0;
+    while i < area.pages {
+        if !sealed_at(flash, area, i) {
+            return false;
+        }
+        i += 1;
+    }
+    true
+}
+
+// Whether the area is damaged.
+pub fn damaged(flash: &[u32], area: Area) -> bool
+    requires { ⌜ Right area (now flash) ⌝ }
+    ensures { λ r. ⌜ r ≡ damaged area (now (flash .entry)) ⌝ }
+{
+    let found = recovery_kind(flash, area);
+    if is_damage(found) {
+        return true;
+    }
+    !all_sound(flash, area, found)
 }
 
 // A place that a walk over the area's entries has come to: an entry's header in the run, the
@@ -205,6 +335,49 @@ pub fn live_twice(flash: &[u32], area: Area) -> bool
     false
 }
 
+// Whether the area is ready.
+pub fn ready(flash: &[u32], area: Area) -> bool
+    requires { ⌜ Right area (now flash) ⌝ }
+    ensures { λ r. ⌜ r ≡ ready area (now (flash .entry)) ⌝ }
+{
+    if !is_free(recovery_kind(flash, area)) {
+        return false;
+    }
+    if !all_sealed(flash, area) {
+        return false;
+    }
+    !live_twice(flash, area)
+}
+
+// The checks of a recovery: GEOMETRY, DAMAGED.
+pub fn check_undamaged(flash: &[u32], area: Area) -> Checked
+    ensures { λ r. ⌜ r ≡ checksOf (recoverChecks area (now (flash .entry))) ⌝ }
+{
+    if wrong_geometry(flash, area) {
+        return Checked::Refused(Refusal::Geometry);
+    }
+    if damaged(flash, area) {
+        return Checked::Refused(Refusal::Damaged);
+    }
+    Checked::Passed
+}
+
+// The checks that write, read, delete and search begin with: GEOMETRY, DAMAGED, UNREADY.
+pub fn check_ready(flash: &[u32], area: Area) -> Checked
+    ensures { λ r. ⌜ r ≡ checksOf (readyChecks area (now (flash .entry)) []) ⌝ }
+{
+    match check_undamaged(flash, area) {
+        Checked::Refused(why) => Checked::Refused(why),
+        Checked::Passed => {
+            if ready(flash, area) {
+                Checked::Passed
+            } else {
+                Checked::Refused(Refusal::Unready)
+            }
+        }
+    }
+}
+
 // Whether a handle is a live one that the filter lets through.
 fn passes(handle: u32, mask: u32, pattern: u32) -> bool
     ensures { λ r. ⌜ r ≡ isLive handle && eqb (bitAnd handle mask) (bitAnd pattern mask) ⌝ }
@@ -249,167 +422,60 @@ pub fn bad_place(flash: &[u32], area: Area, start: usize) -> bool
     true
 }
 
-// Whether a page is sealed.
-fn is_sealed(found: Kind) -> bool
-    ensures { λ r. ⌜ r ≡ isSealed found ⌝ }
+// The live words of an area.
+pub fn live_words(flash: &[u32], area: Area) -> usize
+    requires { ⌜ Right area (now flash) ⌝ }
+    ensures { λ r. ⌜ (r ≡ liveWords (entries area (now (flash .entry)))) × (r ≤ length (now (flash .entry))) ⌝ }
 {
-    match found {
-        Kind::Sealed => true,
-        Kind::Torn => false,
-        Kind::Neither => false,
+    let mut sum: usize = 0;
+    let mut index: usize = 0;
+    while index < area.pages {
+        sum += pages::live_words(page_part(flash, area, index));
+        index += 1;
     }
+    sum
 }
 
-// Whether a page is sealed or torn.
-fn is_sound(found: Kind) -> bool
-    ensures { λ r. ⌜ r ≡ isSound found ⌝ }
+// The lowest page whose compaction makes room for an entry of so many words.
+pub fn compact_page(flash: &[u32], area: Area, size: PageSize, length: usize) -> FoundPage
+    requires { ⌜ Right area (now flash) × (wordsOf size ≡ area .words) × (length ≤ longest) ⌝ }
+    ensures { λ r. ⌜ r ≡ foundPage (compactPage area (now (flash .entry)) length) ⌝ }
 {
-    match found {
-        Kind::Sealed => true,
-        Kind::Torn => true,
-        Kind::Neither => false,
-    }
-}
-
-// Whether R is free.
-fn is_free(found: Recovery) -> bool
-    ensures { λ r. ⌜ r ≡ isFree found ⌝ }
-{
-    match found {
-        Recovery::Free => true,
-        Recovery::Unfinished => false,
-        Recovery::Committed(_) => false,
-        Recovery::Damage => false,
-    }
-}
-
-// Whether R is damage.
-fn is_damage(found: Recovery) -> bool
-    ensures { λ r. ⌜ r ≡ isDamage found ⌝ }
-{
-    match found {
-        Recovery::Free => false,
-        Recovery::Unfinished => false,
-        Recovery::Committed(_) => false,
-        Recovery::Damage => true,
-    }
-}
-
-// Whether R is committed and names a page.
-fn names(found: Recovery, index: usize) -> bool
-    ensures { λ r. ⌜ r ≡ names found index ⌝ }
-{
-    match found {
-        Recovery::Free => false,
-        Recovery::Unfinished => false,
-        Recovery::Committed(named) => index == named,
-        Recovery::Damage => false,
-    }
-}
-
-// Whether a page is sealed or torn, or R names it.
-fn sound_or_named(flash: &[u32], area: Area, found: Recovery, index: usize) -> bool
-    requires { ⌜ Right area (now flash) × (found ≡ recovery area (now flash)) × (index < area .pages) ⌝ }
-    ensures { λ r. ⌜ r ≡ soundOrNamed area (now (flash .entry)) index ⌝ }
-{
-    names(found, index) | is_sound(page_kind(flash, area, index))
-}
-
-// Whether all pages are sealed or torn, but the one that R names.
-fn all_sound(flash: &[u32], area: Area, found: Recovery) -> bool
-    requires { ⌜ Right area (now flash) × (found ≡ recovery area (now flash)) ⌝ }
-    ensures { λ r. ⌜ r ≡ every (soundOrNamed area (now (flash .entry))) (area .pages) 0 ⌝ }
-{
+    let space = size.open_words();
     let mut i: usize = 0;
     while i < area.pages {
-        if !sound_or_named(flash, area, found, i) {
-            return false;
+        let live = pages::live_words(page_part(flash, area, i));
+        if live + length <= space {
+            return FoundPage::At(i);
         }
         i += 1;
     }
-    true
+    FoundPage::None
 }
 
-// Whether a page is sealed.
-fn sealed_at(flash: &[u32], area: Area, index: usize) -> bool
-    requires { ⌜ Right area (now flash) × (index < area .pages) ⌝ }
-    ensures { λ r. ⌜ r ≡ sealedAt area (now (flash .entry)) index ⌝ }
+// The lowest page whose seal leaves the room for an entry of so many words.
+pub fn room_page(flash: &[u32], area: Area, size: PageSize, length: usize) -> FoundPage
+    requires { ⌜ Right area (now flash) × (wordsOf size ≡ area .words) × (length ≤ longest) ⌝ }
+    ensures { λ r. ⌜ r ≡ foundPage (roomPage area (now (flash .entry)) length) ⌝ }
 {
-    is_sealed(page_kind(flash, area, index))
-}
-
-// Whether all pages are sealed.
-fn all_sealed(flash: &[u32], area: Area) -> bool
-    requires { ⌜ Right area (now flash) ⌝ }
-    ensures { λ r. ⌜ r ≡ every (sealedAt area (now (flash .entry))) (area .pages) 0 ⌝ }
-{
-    let mut i: usize = 0;
-    while i < area.pages {
-        if !sealed_at(flash, area, i) {
-            return false;
+    let last = size.last_seal();
+    let mut i = 0;
+    'pages: loop {
+        if area.pages <= i {
+            break 'pages FoundPage::None;
         }
-        i += 1;
-    }
-    true
-}
-
-// Whether the area is damaged.
-pub fn damaged(flash: &[u32], area: Area) -> bool
-    requires { ⌜ Right area (now flash) ⌝ }
-    ensures { λ r. ⌜ r ≡ damaged area (now (flash .entry)) ⌝ }
-{
-    let found = recovery_kind(flash, area);
-    if is_damage(found) {
-        return true;
-    }
-    !all_sound(flash, area, found)
-}
-
-// Whether the area is ready.
-pub fn ready(flash: &[u32], area: Area) -> bool
-    requires { ⌜ Right area (now flash) ⌝ }
-    ensures { λ r. ⌜ r ≡ ready area (now (flash .entry)) ⌝ }
-{
-    if !is_free(recovery_kind(flash, area)) {
-        return false;
-    }
-    if !all_sealed(flash, area) {
-        return false;
-    }
-    !live_twice(flash, area)
-}
-
-// What the checks that a request begins with give.
-pub enum Checked {
-    Passed,
-    Refused(Refusal),
-}
-
-// The checks of a recovery: GEOMETRY, DAMAGED.
-pub fn check_undamaged(flash: &[u32], area: Area) -> Checked
-    ensures { λ r. ⌜ r ≡ checksOf (recoverChecks area (now (flash .entry))) ⌝ }
-{
-    if wrong_geometry(flash, area) {
-        return Checked::Refused(Refusal::Geometry);
-    }
-    if damaged(flash, area) {
-        return Checked::Refused(Refusal::Damaged);
-    }
-    Checked::Passed
-}
-
-// The checks that write, read, delete and search begin with: GEOMETRY, DAMAGED, UNREADY.
-pub fn check_ready(flash: &[u32], area: Area) -> Checked
-    ensures { λ r. ⌜ r ≡ checksOf (readyChecks area (now (flash .entry)) []) ⌝ }
-{
-    match check_undamaged(flash, area) {
-        Checked::Refused(why) => Checked::Refused(why),
-        Checked::Passed => {
-            if ready(flash, area) {
-                Checked::Passed
-            } else {
-                Checked::Refused(Refusal::Unready)
+        let page = page_part(flash, area, i);
+        let mut at: usize = 2;
+        'entries: loop {
+            let step = pages::length_at(page, at);
+            if step == 0 {
+                if at + length <= last {
+                    break 'pages FoundPage::At(i);
+                }
+                break 'entries;
             }
+            at += step;
         }
+        i += 1;
     }
 }

@@ -18,12 +18,13 @@ use Rattle.rules.specs.Words.{openWords, lastSeal, meta0, meta1, isLive, seal}
 use Rattle.rules.specs.Walk.{Item, codes, items, stop, isSound}
 use Rattle.rules.specs.Areas.{R, base, page, kind, recovery, placed, pageEntries, entries, liveWords}
 use Rattle.rules.specs.Lists.{erase, keepLive, liveCodes, copyTo, restore, compact, finish}
+use Rattle.rules.specs.Laws.{live-append}
 use Rattle.rules.specs.Places.{page-in, length-page}
 use Rattle.demands.specs.Terms.{Fair, Map, recovered, blanks, Goods, no-item, good-item}
 use Rattle.demands.specs.Stages.{after, after-then, fair-append}
 use Rattle.demands.specs.Pages.{image, goods-items, length-image, at-seal, items-image, kind-image, stop-image, words-image}
 use Rattle.demands.specs.Runs.{shape-of, copied, part, meta-low, same-or-not, words-left, words-right, words-append, words-page, Only, only-self, only-as, only-trans, only-same, turns-wipe}
-use Rattle.demands.specs.Entries.{look, look-kept, twice-kept, live-append, live-kept, live-same}
+use Rattle.demands.specs.Entries.{look, look-kept, twice-kept, live-kept, live-same}
 use Rattle.demands.specs.Layout.{before, behind, entries-split, entries-only}
 use Rattle.demands.specs.Settled.{open-r, closed-r, given-made, free-blank, Settled, Stands, stands-by, stands-settled, stands-look, mended-only, settled-page}
 use Rattle.demands.specs.Finishing.{Undamaged, undamaged-by, restored, finish-resumes, finish-fair, recovered-by}

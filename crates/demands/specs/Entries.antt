@@ -16,7 +16,7 @@ use Rattle.rules.specs.Walk.{Item, entryLength, codes}
 use Rattle.rules.specs.Areas.{Entry, placed, anyOf, firstOf, liveOf, doubled, twice, find, dataOf, liveWords}
 use Rattle.rules.specs.Refusals.{isNone}
 use Rattle.rules.specs.Lists.{bare, keepLive, supersede}
-use Rattle.rules.specs.Laws.{and-left, and-right, nor-left, nor-right}
+use Rattle.rules.specs.Laws.{and-left, and-right, nor-left, nor-right, live-append}
 use Rattle.demands.specs.Terms.{lastLive}
 
 -- an entry whose header is its bare length
@@ -230,10 +230,6 @@ look-add u x e y l n = go (eqb u (e .handle)) refl
     go false q = look-other u x e y q
 
 -- ---- live words
-pub live-append : (x y : List Entry) → liveWords (x ++ y) ≡ liveWords x + liveWords y
-live-append [] y = omega arith
-live-append (e ∷ x) y = let ih = live-append x y in omega arith
-
 pub live-at : (x : List Entry) (e : Entry) (y : List Entry) → liveWords (x ++ e ∷ y) ≡ cond (isLive (e .handle)) (entryLength (e .words)) 0 + liveWords (x ++ y)
 live-at x e y = omega (arith, live-append x (e ∷ y), live-append x y)
 

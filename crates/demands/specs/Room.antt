@@ -16,10 +16,11 @@ use Rattle.rules.specs.Words.{openWords, longest, quota, lastSeal}
 use Rattle.rules.specs.Walk.{items, stop}
 use Rattle.rules.specs.Areas.{base, page, pageEntries, entriesFrom, entries, find, liveWords}
 use Rattle.rules.specs.Refusals.{areaQuota}
-use Rattle.rules.specs.Lists.{bareIf, liveCodes, copyTo, compact, lowest, roomPage, compactPage, append}
+use Rattle.rules.specs.Lists.{bareIf, liveCodes, copyTo, compact, lowest, leavesRoom, roomPage, makesRoom, compactPage, append}
+use Rattle.rules.specs.Laws.{live-append}
 use Rattle.rules.specs.Places.{Right}
 use Rattle.demands.specs.Runs.{length-puts}
-use Rattle.demands.specs.Entries.{live-append, live-kept}
+use Rattle.demands.specs.Entries.{live-kept}
 
 -- ---- how many stores
 pub copy-length : (a : Area) (j i : ℕ) (ws : List ℕ) → length (copyTo a j i ws) ≡ length ws + 2
@@ -74,20 +75,20 @@ none-within t m n e j l = leb-false (t j) m (lowest-none (λ j. leb (t j) m) n 0
 
 pub room-page : (a : Area) (f : List ℕ) (l i : ℕ) → roomPage a f l ≡ some i
     → (i < a .pages) × (stop (page a f i) + l ≤ lastSeal (a .words)) × ((j : ℕ) → j < i → lastSeal (a .words) < stop (page a f j) + l)
-unfolding roomPage
+unfolding roomPage leavesRoom
 room-page a f l i e = lowest-within (λ j. stop (page a f j) + l) (lastSeal (a .words)) (a .pages) i e
 
 pub no-room-page : (a : Area) (f : List ℕ) (l : ℕ) → roomPage a f l ≡ none → (i : ℕ) → i < a .pages → lastSeal (a .words) < stop (page a f i) + l
-unfolding roomPage
+unfolding roomPage leavesRoom
 no-room-page a f l e i h = none-within (λ j. stop (page a f j) + l) (lastSeal (a .words)) (a .pages) e i h
 
 pub compact-page : (a : Area) (f : List ℕ) (l i : ℕ) → compactPage a f l ≡ some i
     → (i < a .pages) × (liveWords (pageEntries a f i) + l ≤ openWords (a .words)) × ((j : ℕ) → j < i → openWords (a .words) < liveWords (pageEntries a f j) + l)
-unfolding compactPage
+unfolding compactPage makesRoom
 compact-page a f l i e = lowest-within (λ j. liveWords (pageEntries a f j) + l) (openWords (a .words)) (a .pages) i e
 
 no-compact-page : (a : Area) (f : List ℕ) (l : ℕ) → compactPage a f l ≡ none → (i : ℕ) → i < a .pages → openWords (a .words) < liveWords (pageEntries a f i) + l
-unfolding compactPage
+unfolding compactPage makesRoom
 no-compact-page a f l e i h = none-within (λ j. liveWords (pageEntries a f j) + l) (openWords (a .words)) (a .pages) e i h
 
 -- ---- within the quota

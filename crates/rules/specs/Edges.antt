@@ -17,7 +17,7 @@ use Rattle.rules.specs.Words.{meta1, indexOf, header}
 use Rattle.rules.specs.Walk.{begins, items, rest, stop, metaRight, kindOf}
 use Rattle.rules.specs.Areas.{base, page, recoveryOf, entries, damaged, ready, mapOf}
 use Rattle.rules.specs.Refusals.{readingNumber, readingStores, readingPlace, readingWords, yieldedNumber, yieldedStores, yieldedPlace, wrongGeometry, unready, holds, noRoom}
-use Rattle.rules.specs.Lists.{liveCodes, roomPage, compactPage, format, recover, write, delete}
+use Rattle.rules.specs.Lists.{liveCodes, leavesRoom, roomPage, makesRoom, compactPage, format, recover, write, delete}
 use Rattle.rules.specs.Search.{next, badPlace}
 use Rattle.rules.specs.Cases.{Act, asks, reads, searches, looks, looks-at-R, looks-up, weighs, Seen, answer, reading, yields, page-is, R-is, value, weight, Case, comes, must, small, zeros, blanks, sevens, enough}
 
@@ -228,7 +228,7 @@ abbrev pub cases : List Case
 cases = shapes ++ (damages ++ (twofold ∷ over ∷ sought ∷ seal-like ∷ filled ∷ chosen ∷ (compactions ++ recoveries)))
 
 pub edges : map comes cases ≡ map must cases
-unfolding stored wiped madeFirst meta1 indexOf header begins items rest stop metaRight kindOf base page recoveryOf entries damaged ready mapOf wrongGeometry unready holds noRoom liveCodes roomPage compactPage next badPlace
+unfolding stored wiped madeFirst meta1 indexOf header begins items rest stop metaRight kindOf base page recoveryOf entries damaged ready mapOf wrongGeometry unready holds noRoom liveCodes leavesRoom roomPage makesRoom compactPage next badPlace
 edges = refl
 
 -- ---- numbers, stores and values of a read, and of a step of a search

@@ -1,6 +1,7 @@
--- Laws of the definitions: page sizes, headers, where the walk stops, and answers against the stores made. Assumes nothing.
+-- Laws of the definitions: page sizes, headers, where the walk stops, live words, and answers against the stores made.
+-- Assumes nothing.
 use mathlib.Core.Path.{_≡_, refl, ap, sym, _∙_}
-use mathlib.Core.List.{List, [], _∷_}
+use mathlib.Core.List.{List, [], _∷_, _++_}
 use mathlib.Core.Bool.{Bool, true, false, cond, _&&_, _||_, true≢false, false≢true}
 use mathlib.Core.Logic.{⊎-elim}
 use Prim.Native.Nat.{ℕ, suc, zero, _+_, _-_, _*_, _^_, _≤_, _<_}
@@ -19,7 +20,8 @@ use Rattle.rules.specs.declared.FoundSize.{FoundSize}
 use Rattle.rules.specs.declared.Refusal.{Refusal}
 use Rattle.rules.specs.declared.Answer.{Answer}
 use Rattle.rules.specs.Words.{wordsOf, sizeOf, longest, header, handleOf, lengthOf, special, seal}
-use Rattle.rules.specs.Walk.{begins, walkIn, rest, stop}
+use Rattle.rules.specs.Walk.{begins, Item, entryLength, walkIn, rest, stop}
+use Rattle.rules.specs.Areas.{Entry, placed, liveWords}
 use Rattle.rules.specs.Refusals.{answerStores, checked, list, outcomeOf}
 
 -- ---- tests
@@ -114,6 +116,16 @@ stops-inside p h =
     let d : length (drop 2 p) ≡ length p - 2 = length-drop 2 p in
     let s : 0 < length (walkIn 0 (drop 2 p) .rest) = rest-some 0 (drop 2 p) (omega arith) in
     omega arith
+
+-- ---- live words
+pub live-append : (x y : List Entry) → liveWords (x ++ y) ≡ liveWords x + liveWords y
+live-append [] y = omega arith
+live-append (e ∷ x) y = let ih = live-append x y in omega arith
+
+-- they do not depend on where the entries stand
+pub live-anywhere : (at bt : ℕ) (es : List Item) → liveWords (placed at es) ≡ liveWords (placed bt es)
+live-anywhere at bt [] = refl
+live-anywhere at bt (e ∷ es) = rw (live-anywhere (at + entryLength (e .words)) (bt + entryLength (e .words)) es)
 
 -- ---- answers
 -- the stores that an answer counts are those made

@@ -73,13 +73,19 @@ abbrev pub lowest : (ℕ → Bool) → ℕ → ℕ → Option ℕ
 lowest t zero i = none
 lowest t (suc n) i = cond (t i) (some i) (lowest t n (suc i))
 
--- the lowest page whose seal leaves the room for an entry of l words
-unfoldable pub roomPage : Area → List ℕ → ℕ → Option ℕ
-roomPage a f l = lowest (λ i. leb (stop (page a f i) + l) (lastSeal (a .words))) (a .pages) 0
+-- whether the seal of page i leaves the room for an entry of l words, and the lowest page whose seal does
+unfoldable pub leavesRoom : Area → List ℕ → ℕ → ℕ → Bool
+leavesRoom a f l i = leb (stop (page a f i) + l) (lastSeal (a .words))
 
--- the lowest page whose compaction makes that room
+unfoldable pub roomPage : Area → List ℕ → ℕ → Option ℕ
+roomPage a f l = lowest (leavesRoom a f l) (a .pages) 0
+
+-- whether the compaction of page i makes that room, and the lowest page whose compaction does
+unfoldable pub makesRoom : Area → List ℕ → ℕ → ℕ → Bool
+makesRoom a f l i = leb (liveWords (pageEntries a f i) + l) (openWords (a .words))
+
 unfoldable pub compactPage : Area → List ℕ → ℕ → Option ℕ
-compactPage a f l = lowest (λ i. leb (liveWords (pageEntries a f i) + l) (openWords (a .words))) (a .pages) 0
+compactPage a f l = lowest (makesRoom a f l) (a .pages) 0
 
 -- to page i: header over the seal, data, new seal; then the old entry's header, wherever it stands
 abbrev pub append : Area → ℕ → List ℕ → ℕ → Step

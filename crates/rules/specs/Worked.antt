@@ -16,7 +16,7 @@ use Rattle.rules.specs.Words.{wordsOf, openWords, quota, lastSeal, meta1
 use Rattle.rules.specs.Walk.{begins, items, rest, stop, metaRight, kindOf}
 use Rattle.rules.specs.Areas.{base, page, recoveryOf, entries, damaged, ready, mapOf}
 use Rattle.rules.specs.Refusals.{wrongGeometry, unready, holds, noRoom}
-use Rattle.rules.specs.Lists.{liveCodes, roomPage, compactPage, format, recover, write, delete}
+use Rattle.rules.specs.Lists.{liveCodes, leavesRoom, roomPage, makesRoom, compactPage, format, recover, write, delete}
 use Rattle.rules.specs.Search.{next, badPlace}
 use Rattle.rules.specs.Cases.{Act, asks, reads, searches, looks, looks-up, weighs, Seen, answer, reading, yields, page-is, value, weight, Case, comes, must, small, zeros, blanks, sevens, enough}
 
@@ -163,5 +163,5 @@ cases =
     ∷ []
 
 pub worked : map comes cases ≡ map must cases
-unfolding stored wiped madeFirst meta1 indexOf header begins items rest stop metaRight kindOf base page recoveryOf entries damaged ready mapOf wrongGeometry unready holds noRoom liveCodes roomPage compactPage next badPlace
+unfolding stored wiped madeFirst meta1 indexOf header begins items rest stop metaRight kindOf base page recoveryOf entries damaged ready mapOf wrongGeometry unready holds noRoom liveCodes leavesRoom roomPage makesRoom compactPage next badPlace
 worked = refl
