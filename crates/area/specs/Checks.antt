@@ -2,10 +2,9 @@
 use mathlib.Core.Path.{_≡_, refl, ap, sym, _∙_}
 use mathlib.Core.List.{List, [], _∷_, _++_}
 use mathlib.Core.Bool.{Bool, true, false, cond, not, _&&_, _||_}
-use Prim.Native.Nat.{ℕ, suc, zero, _+_, _-_, _*_, _≤_, _<_}
+use Prim.Native.Nat.{ℕ, suc, _+_, _-_, _*_, _≤_, _<_}
 use native.Mathlib.Omega.{arith}
 use native.Mathlib.Nat.{mul-le-mul-right, suc-mul}
-use native.Mathlib.Numerals.{add-one}
 use lib.ListN.{length, take, drop}
 use lib.Dec.{eqb}
 use borrow.Author.Tests.{le-leb, lt-leb, not-true, not-false}
@@ -89,38 +88,6 @@ module _ {a : Area} {f : List ℕ} (i : ℕ) (r : Right a f) (h : i ≤ a .pages
 
 pub ruleset parts = (page-cut, page-ends, page-long, base-fits, end-fits, bytes-fit)
 
--- ---- a test of the pages one behind the other has come to a page
-pub record Testing (t : ℕ → Bool) (n i : ℕ) : Type 0 where
-  pub rest : ℕ
-  pub sum : rest + i ≡ n
-  pub same : every t rest i ≡ every t n 0
-
-pub testing-start : {t : ℕ → Bool} {n : ℕ} → Testing t n 0
-testing-start {t} {n} = record { rest = n; sum = omega arith; same = refl }
-
-one-more : (t : ℕ → Bool) (n i k : ℕ) → t i ≡ true → i < n → k + i ≡ n → every t k i ≡ every t n 0 → Testing t n (i + 1)
-one-more t n i zero q h s e = absurd (let z : ⊥ = omega arith in z)
-one-more t n i (suc k) q h s e = record { rest = k; sum = omega arith; same = rw add-one (rw q at e) }
-
-fails : (t : ℕ → Bool) (n i k : ℕ) → t i ≡ false → i < n → k + i ≡ n → every t k i ≡ every t n 0 → false ≡ every t n 0
-fails t n i zero q h s e = absurd (let z : ⊥ = omega arith in z)
-fails t n i (suc k) q h s e = rw q at e
-
-none-left : (t : ℕ → Bool) (n i k : ℕ) → n ≤ i → k + i ≡ n → every t k i ≡ every t n 0 → true ≡ every t n 0
-none-left t n i zero h s e = e
-none-left t n i (suc k) h s e = absurd (let z : ⊥ = omega arith in z)
-
-module _ {t : ℕ → Bool} {n i : ℕ} (s : Testing t n i) where
-  pub testing-end : n ≤ i → true ≡ every t n 0
-  testing-end h = none-left t n i (s .rest) h (s .sum) (s .same)
-
-  module _ {b : Bool} (h : i < n) (q : b ≡ t i) where
-    pub testing-on : b ≡ true → Testing t n (i + 1)
-    testing-on y = one-more t n i (s .rest) (sym q ∙ y) h (s .sum) (s .same)
-
-    pub testing-fails : b ≡ false → false ≡ every t n 0
-    testing-fails y = fails t n i (s .rest) (sym q ∙ y) h (s .sum) (s .same)
-
 -- ---- damaged, ready
 abbrev pub soundOrNamed : Area → List ℕ → ℕ → Bool
 soundOrNamed a f i = names (recovery a f) i || isSound (kind a f i)
@@ -152,8 +119,6 @@ module _ {b : Bool} {r : Recovery} (a : Area) (f : List ℕ) (q : r ≡ recovery
 
     pub ready-once : {d : Bool} → c ≡ true → d ≡ twice (entries a f) → not d ≡ ready a f
     ready-once y z = sym (rw (y, ← z) at by-pages)
-
-pub ruleset pages = (not-true, not-false, testing-start, testing-end, testing-on, testing-fails)
 
 pub ruleset states = (not-true, not-false, damaged-r, damaged-pages, unready-r, unready-pages, ready-once)
 

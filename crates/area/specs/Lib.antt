@@ -1,3 +1,4 @@
+pub mod Seeking
 pub mod Checks
 pub mod Ahead
 pub mod Rooms

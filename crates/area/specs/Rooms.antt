@@ -23,6 +23,7 @@ use Rattle.rules.specs.Places.{Right, base-suc, page-in}
 use Rattle.pages.specs.Steps.{lengthAt, entriesAt, Walking, walking-start, walking-on, walking-end, page-entries}
 use Rattle.area.specs.declared.FoundPage.{FoundPage}
 use Rattle.area.specs.declared.FoundPage.the-variants.{At, None}
+use Rattle.area.specs.Seeking.{Seeking, seeking-start, seeking-on, seeking-found, seeking-none}
 use Rattle.area.specs.Checks.{end-fits}
 
 -- what a search over pages answers
@@ -82,38 +83,7 @@ sum-below {a} {i = i} s r =
 
 pub ruleset sums = (summing-start, summing-on, sum-fits, summing-end, sum-below)
 
--- ---- a search for the lowest of n pages that passes a test has come to page i
-pub record Seeking (t : ℕ → Bool) (n i : ℕ) : Type 0 where
-  pub left : ℕ
-  pub count : left + i ≡ n
-  pub same : lowest t left i ≡ lowest t n 0
-
-pub seeking-start : {t : ℕ → Bool} {n : ℕ} → Seeking t n 0
-seeking-start {n = n} = record { left = n; count = omega arith; same = refl }
-
-module _ (t : ℕ → Bool) (n i : ℕ) where
-  on : (k : ℕ) → i < n → t i ≡ false → k + i ≡ n → lowest t k i ≡ lowest t n 0 → Seeking t n (suc i)
-  on zero h e c s = absurd (let z : ⊥ = omega arith in z)
-  on (suc k) h e c s = record { left = k; count = omega arith; same = rw e at s }
-
-  found : (k : ℕ) → i < n → t i ≡ true → k + i ≡ n → lowest t k i ≡ lowest t n 0 → some i ≡ lowest t n 0
-  found zero h e c s = absurd (let z : ⊥ = omega arith in z)
-  found (suc k) h e c s = rw e at s
-
-  missed : (k : ℕ) → n ≤ i → k + i ≡ n → lowest t k i ≡ lowest t n 0 → none ≡ lowest t n 0
-  missed zero h c s = s
-  missed (suc k) h c s = absurd (let z : ⊥ = omega arith in z)
-
-seeking-on : {t : ℕ → Bool} {n i : ℕ} → Seeking t n i → i < n → t i ≡ false → Seeking t n (i + 1)
-seeking-on {t} {n} {i} s h e = rw (add-one i) (on t n i (s .left) h e (s .count) (s .same))
-
-seeking-found : {t : ℕ → Bool} {n i : ℕ} → Seeking t n i → i < n → t i ≡ true → At i ≡ foundPage (lowest t n 0)
-seeking-found {t} {n} {i} s h e = ap foundPage (found t n i (s .left) h e (s .count) (s .same))
-
-seeking-none : {t : ℕ → Bool} {n i : ℕ} → Seeking t n i → n ≤ i → None ≡ foundPage (lowest t n 0)
-seeking-none {t} {n} {i} s h = ap foundPage (missed t n i (s .left) h (s .count) (s .same))
-
--- what its answer says
+-- ---- what a search over pages says of the page found
 pub found-some : {r : FoundPage} {i : ℕ} (o : Option ℕ) → r ≡ foundPage o → r ≡ At i → o ≡ some i
 found-some none e q = absurd (let z : _≡_ {A = ℕ} 0 1 = cc in omega arith)
 found-some (some j) e q = cc
@@ -153,14 +123,14 @@ module _ (a : Area) (f : List ℕ) (l : ℕ) (z : PageSize) {p : List ℕ} {i m 
 
   pub compact-found : m + l ≤ d → At i ≡ foundPage (compactPage a f l)
   unfolding compactPage
-  compact-found r = seeking-found s h (makes ∙ le-leb (m + l) d r)
+  compact-found r = ap foundPage (seeking-found s h (makes ∙ le-leb (m + l) d r))
 
   pub compact-on : d < m + l → Seeking (makesRoom a f l) (a .pages) (i + 1)
   compact-on r = seeking-on s h (makes ∙ lt-leb (m + l) d r)
 
 pub compact-none : (a : Area) (f : List ℕ) (l : ℕ) {i : ℕ} → Seeking (makesRoom a f l) (a .pages) i → a .pages ≤ i → None ≡ foundPage (compactPage a f l)
 unfolding compactPage
-compact-none a f l s h = seeking-none s h
+compact-none a f l s h = ap foundPage (seeking-none s h)
 
 pub ruleset compacts = (seeking-start, compact-on, compact-found, compact-none)
 
@@ -177,13 +147,13 @@ module _ (a : Area) (f : List ℕ) (l : ℕ) (z : PageSize) {p : List ℕ} {i at
 
   pub room-found : at + l ≤ d → At i ≡ foundPage (roomPage a f l)
   unfolding roomPage
-  room-found r = seeking-found s h (leaves ∙ le-leb (at + l) d r)
+  room-found r = ap foundPage (seeking-found s h (leaves ∙ le-leb (at + l) d r))
 
   pub room-on : d < at + l → Seeking (leavesRoom a f l) (a .pages) (i + 1)
   room-on r = seeking-on s h (leaves ∙ lt-leb (at + l) d r)
 
 pub room-none : (a : Area) (f : List ℕ) (l : ℕ) {i : ℕ} → Seeking (leavesRoom a f l) (a .pages) i → a .pages ≤ i → None ≡ foundPage (roomPage a f l)
 unfolding roomPage
-room-none a f l s h = seeking-none s h
+room-none a f l s h = ap foundPage (seeking-none s h)
 
 pub ruleset rooms = (seeking-start, walk-starts, walking-on, room-on, room-found, room-none)

@@ -2,7 +2,8 @@
 use Prim.Native.Nat.{_-_}
 use borrow.Author.Needs.{needs}
 use Rattle.rules.specs.Lists.{makesRoom}
-use Rattle.area.specs.Rooms.{Seeking, compacts}
+use Rattle.area.specs.Seeking.{Seeking}
+use Rattle.area.specs.Rooms.{compacts}
 use Rattle.area.proofs.compact_page.Statement.{statement}
 use Rattle.area.proofs.compact_page.Tie as tie
 

@@ -4,7 +4,8 @@ use lib.ListN.{length}
 use borrow.Author.Needs.{needs}
 use Rattle.rules.specs.Lists.{leavesRoom}
 use Rattle.pages.specs.Steps.{Walking}
-use Rattle.area.specs.Rooms.{Seeking, rooms}
+use Rattle.area.specs.Seeking.{Seeking}
+use Rattle.area.specs.Rooms.{rooms}
 use Rattle.area.proofs.room_page.Statement.{statement}
 use Rattle.area.proofs.room_page.Tie as tie
 
