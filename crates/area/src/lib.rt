@@ -196,7 +196,7 @@ fn all_sealed(flash: &[u32], area: Area) -> bool
 }
 
 // Whether the area is damaged.
-pub fn damaged(flash: &[u32], area: Area) -> bool
+fn damaged(flash: &[u32], area: Area) -> bool
     requires { ⌜ Right area (now flash) ⌝ }
     ensures { λ r. ⌜ r ≡ damaged area (now (flash .entry)) ⌝ }
 {
@@ -336,7 +336,7 @@ pub fn live_twice(flash: &[u32], area: Area) -> bool
 }
 
 // Whether the area is ready.
-pub fn ready(flash: &[u32], area: Area) -> bool
+fn ready(flash: &[u32], area: Area) -> bool
     requires { ⌜ Right area (now flash) ⌝ }
     ensures { λ r. ⌜ r ≡ ready area (now (flash .entry)) ⌝ }
 {
