@@ -7,6 +7,9 @@ ghost use mathlib.Core.List.{[], _∷_};
 ghost use lib.ListN.{getD};
 ghost use Rattle.flash.specs.Stores.{put, wipe, wiped, spent, Ran};
 
+// A word of an erased page.
+pub const BLANK: u32 = 0xFFFF_FFFF;
+
 // The stores that power is left for, and whether a store has been asked for without. Once noted, a
 // cut stays noted.
 pub struct Power {
@@ -69,7 +72,7 @@ fn fill(flash: &mut [u32], at: usize, count: usize)
         if flash.len() <= i {
             return;
         }
-        flash[i] = 0xFFFF_FFFF;
+        flash[i] = BLANK;
         i += 1;
         left -= 1;
     }

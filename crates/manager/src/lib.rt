@@ -10,15 +10,16 @@ use area::Found;
 use rules::Area;
 use rules::Reading;
 use rules::Refusal;
+use rules::SPECIAL;
 use rules::Yielded;
 
 pub mod object; // object.rt: a search as an object
 
 // Whether no entry can be live under a handle.
-fn bad_handle(handle: u16) -> bool
+fn bad_handle(handle: u32) -> bool
     ensures { λ r. ⌜ r ≡ badHandle handle ⌝ }
 {
-    (handle == 0) | (0x7F00 <= handle)
+    (handle == 0) | (SPECIAL <= handle)
 }
 
 // Where a handle's data lie: the place of its live entry's header in the run, one word before the
@@ -29,7 +30,7 @@ pub fn read(flash: &[u32], area: Area, handle: u16) -> Reading
     match area::check_ready(flash, area) {
         Checked::Refused(why) => Reading::Refused(why),
         Checked::Passed => {
-            if bad_handle(handle) {
+            if bad_handle(handle as u32) {
                 return Reading::Refused(Refusal::BadHandle);
             }
             match area::find(flash, area, handle as u32) {

@@ -9,18 +9,13 @@ ghost use Rattle.rules.specs.Words.{handleOf, lengthOf};
 ghost use Rattle.rules.specs.Walk.{stop, allBlank, metaRight, kindOf};
 ghost use Rattle.rules.specs.Areas.{recoveryOf, liveWords};
 ghost use Rattle.pages.specs.Steps.{lengthAt, entriesAt, counted};
+use flash::BLANK;
 use rules::Kind;
+use rules::META0;
 use rules::PageSize;
 use rules::Recovery;
-
-// A word that nothing was stored to since its page was erased.
-pub const BLANK: u32 = 0xFFFF_FFFF;
-// The word behind a page's entries.
-pub const SEAL: u32 = 0x7FFF_FFFF;
-// A page's word 0.
-pub const META0: u32 = 0x1010_0408;
-// The first of the special handles, which no entry has.
-pub const SPECIAL: u32 = 0x7F00;
+use rules::SEAL;
+use rules::SPECIAL;
 
 // The handle in a header.
 pub fn handle_of(word: u32) -> u32

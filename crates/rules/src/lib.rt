@@ -7,6 +7,13 @@ ghost use Prim.Native.Nat.{_≤_};
 ghost use Rattle.rules.specs.Words.{wordsOf, sizeOf, openWords, quota, lastSeal};
 ghost use Rattle.rules.specs.Refusals.{refusalNumber, answerNumber, answerStores, readingNumber, readingPlace, readingWords, yieldedNumber, yieldedPlace};
 
+// A page's word 0.
+pub const META0: u32 = 0x1010_0408;
+// The word behind a page's entries.
+pub const SEAL: u32 = 0x7FFF_FFFF;
+// The first of the special handles, which no entry has.
+pub const SPECIAL: u32 = 0x7F00;
+
 // An area: so many pages of so many words each, and behind them the recovery page. Any numbers may
 // stand here; GEOMETRY judges them.
 pub struct Area {
