@@ -1,4 +1,2 @@
 pub mod Seeking
 pub mod Checks
-pub mod Ahead
-pub mod Rooms

@@ -15,9 +15,9 @@ use Rattle.rules.specs.Areas.{Entry, entries, find}
 use Rattle.rules.specs.Refusals.{badHandle, isNone, readyChecks}
 use Rattle.rules.specs.Search.{placeOf, dataLength, readOf, next, badPlace, searchOf}
 use Rattle.area.specs.declared.Checked.{Checked}
-use Rattle.area.specs.declared.Found.{Found}
+use Rattle.entries.specs.declared.Found.{Found}
 use Rattle.area.specs.Checks.{checksOf, ready-refused, ready-on, ready-right}
-use Rattle.area.specs.Ahead.{foundOf}
+use Rattle.entries.specs.Ahead.{foundOf}
 
 -- ---- what is found
 found-none : (o : Option Entry) → foundOf o ≡ Found.None → isNone o ≡ true

@@ -6,7 +6,7 @@ ghost use mathlib.Core.Path.{_≡_};
 ghost use Rattle.rules.specs.Refusals.{badHandle};
 ghost use Rattle.rules.specs.Search.{readOf, searchOf};
 use area::Checked;
-use area::Found;
+use entries::Found;
 use rules::Area;
 use rules::Reading;
 use rules::Refusal;
@@ -33,7 +33,7 @@ pub fn read(flash: &[u32], area: Area, handle: u16) -> Reading
             if bad_handle(handle as u32) {
                 return Reading::Refused(Refusal::BadHandle);
             }
-            match area::find(flash, area, handle as u32) {
+            match entries::find(flash, area, handle as u32) {
                 Found::None => Reading::Refused(Refusal::NotFound),
                 Found::At { place, words } => Reading::At { place, words },
             }
@@ -49,10 +49,10 @@ pub fn search(flash: &[u32], area: Area, mask: u16, pattern: u16, place: usize) 
     match area::check_ready(flash, area) {
         Checked::Refused(why) => Yielded::Refused(why),
         Checked::Passed => {
-            if area::bad_place(flash, area, place) {
+            if entries::bad_place(flash, area, place) {
                 return Yielded::Refused(Refusal::BadPlace);
             }
-            match area::next_match(flash, area, mask as u32, pattern as u32, place) {
+            match entries::next_match(flash, area, mask as u32, pattern as u32, place) {
                 Found::None => Yielded::Refused(Refusal::NotFound),
                 Found::At { place, words: _ } => Yielded::At(place),
             }

@@ -1,0 +1,321 @@
+-- The area's entries from a cursor on, and what a loop over them has come to: definitions and laws. Assumes nothing.
+use mathlib.Core.Path.{_≡_, refl, sym, ap, subst, _∙_}
+use mathlib.Core.List.{List, [], _∷_, _++_}
+use mathlib.Core.Bool.{Bool, true, false, cond, not, _&&_, _||_}
+use mathlib.Core.Option.{Option, some, none}
+use Prim.Native.Nat.{ℕ, suc, zero, _+_, _-_, _≤_, _<_}
+use native.Mathlib.Omega.{arith}
+use lib.ListN.{length, getD, take, drop, length-take, length-drop}
+use lib.Bits.{bitAnd}
+use lib.Dec.{ltb, eqb}
+use lib.Seq.{length-take-le, take-add, drop-at, drop-drop, getD-take}
+use borrow.Author.Tests.{eq-eqb, ne-eqb}
+use Rattle.rules.specs.declared.Area.{Area}
+use Rattle.rules.specs.Words.{handleOf, isLive}
+use Rattle.rules.specs.Walk.{walkIn, items}
+use Rattle.rules.specs.Areas.{base, page, Entry, placed, pageEntries, entriesFrom, entries, anyOf, firstOf, liveOf, twice, find}
+use Rattle.rules.specs.Refusals.{isNone}
+use Rattle.rules.specs.Search.{wanted, isAt, badPlace}
+use Rattle.rules.specs.Places.{Right, base-suc, base-zero, base-le}
+use Rattle.pages.specs.Steps.{lengthAt, walkAt, entriesAt, entryAt, length-inside, entries-on, entries-end}
+use Rattle.entries.specs.declared.Cursor.{Cursor}
+use Rattle.entries.specs.declared.Found.{Found}
+
+-- ---- what is found
+abbrev pub foundOf : Option Entry → Found
+foundOf none = Found.None
+foundOf (some e) = Found.At (e .place) (length (e .words))
+
+-- ---- cursors
+-- the entries from a place on, to the end of a page and of the pages behind it
+unfoldable pub onward : Area → List ℕ → ℕ → ℕ → ℕ → List Entry
+onward a f place end left = entriesAt (take end f) place ++ entriesFrom a f left (a .pages - left)
+
+abbrev pub ahead : Area → List ℕ → Cursor → List Entry
+ahead a f c = onward a f (c .place) (c .end) (c .left)
+
+-- the entry at a cursor
+unfoldable pub entryOf : List ℕ → Cursor → Entry
+entryOf f c = record { place = c .place; handle = handleOf (getD f (c .place) 0); words = take (c .length - 1) (drop (suc (c .place)) (take (c .end) f)) }
+
+-- the end of a page is that of the last but so many
+pub record Ends (a : Area) (f : List ℕ) (end left : ℕ) : Type 0 where
+  pub behind : left < a .pages
+  pub place : end ≡ base a (a .pages - left)
+  pub inside : end ≤ length f
+
+-- a cursor stands at an entry, or behind the last one
+pub record Sound (a : Area) (f : List ℕ) (c : Cursor) : Type 0 where
+  pub ends : Ends a f (c .end) (c .left)
+  pub length : c .length ≡ lengthAt (take (c .end) f) (c .place)
+  pub fits : c .length ≤ c .end - c .place - 1
+  pub last : c .length ≡ 0 → c .left ≡ 0
+
+-- ---- laws of pages
+drop-take : (n m : ℕ) (l : List ℕ) → n ≤ length l → drop n (take (n + m) l) ≡ take m (drop n l)
+drop-take n m l h = ap (λ (u : List ℕ). drop n u) (take-add n m l) ∙ drop-at (take n l) (take m (drop n l)) n (length-take-le n l h)
+
+page-onward : (a : Area) (f : List ℕ) (i : ℕ) → base a i ≤ length f → pageEntries a f i ≡ entriesAt (take (base a i + a .words) f) (base a i + 2)
+unfolding page items entriesAt walkAt
+page-onward a f i h =
+    ap (λ (u : List ℕ). placed (base a i + 2) (walkIn 0 u .items))
+    (ap (λ (u : List ℕ). drop 2 u) (sym (drop-take (base a i) (a .words) f h)) ∙ drop-drop 2 (base a i) (take (base a i + a .words) f))
+
+-- where a page has no entry left, the next one's follow
+module _ {a : Area} {f : List ℕ} (r : Right a f) where
+  inside-run : (i : ℕ) → i ≤ a .pages → base a i ≤ length f
+  inside-run i h = rw (r .long) (base-le a i (suc (a .pages)) (omega arith))
+
+  pub ends-next : {end left : ℕ} → Ends a f end left → (left ≡ 0 → ⊥) → Ends a f (end + a .words) (left - 1)
+  ends-next {end} {left} e z =
+      let b = e .behind in
+      let i : suc (a .pages - left) ≡ a .pages - (left - 1) = omega arith in
+      let q : base a (a .pages - (left - 1)) ≡ end + a .words = ap (base a) (sym i) ∙ base-suc a (a .pages - left) ∙ ap (λ (u : ℕ). u + a .words) (sym (e .place)) in
+      record { behind = omega arith; place = sym q; inside = subst (λ (u : ℕ). u ≤ length f) q (inside-run (a .pages - (left - 1)) (omega arith)) }
+
+  pub onward-next : (end left : ℕ) → Ends a f end left → (left ≡ 0 → ⊥) → entriesFrom a f left (a .pages - left) ≡ onward a f (end + 2) (end + a .words) (left - 1)
+  unfolding onward
+  onward-next end zero e z = absurd (z refl)
+  onward-next end (suc l) e z =
+      let b = e .behind in
+      let i : suc (a .pages - suc l) ≡ a .pages - l = omega arith in
+      let k : suc l - 1 ≡ l = omega arith in
+      rw (i, k, e .place, page-onward a f (a .pages - suc l) (inside-run (a .pages - suc l) (omega arith)))
+
+  -- the first page
+  pub first-ends : Ends a f (a .words) (a .pages - 1)
+  first-ends =
+      let s = r .some-pages in
+      let i : a .pages - (a .pages - 1) ≡ 1 = omega arith in
+      let q : base a (a .pages - (a .pages - 1)) ≡ a .words = ap (base a) i ∙ base-suc a 0 ∙ ap (λ (u : ℕ). u + a .words) (base-zero a) ∙ omega arith in
+      record { behind = omega arith; place = sym q; inside = subst (λ (u : ℕ). u ≤ length f) q (inside-run (a .pages - (a .pages - 1)) (omega arith)) }
+
+  first-from : (n : ℕ) → entriesAt (take (a .words) f) 2 ++ entriesFrom a f n 1 ≡ entriesFrom a f (suc n) 0
+  first-from n =
+      let w : base a 0 + a .words ≡ a .words = omega (arith, base-zero a) in
+      let t : base a 0 + 2 ≡ 2 = omega (arith, base-zero a) in
+      let p : pageEntries a f 0 ≡ entriesAt (take (a .words) f) 2 = page-onward a f 0 (inside-run 0 (omega arith)) ∙ rw (w, t) in
+      ap (λ (u : List Entry). u ++ entriesFrom a f n 1) (sym p)
+
+  pub first-onward : onward a f 2 (a .words) (a .pages - 1) ≡ entries a f
+  unfolding onward entries
+  first-onward =
+      let s = r .some-pages in
+      let n : suc (a .pages - 1) ≡ a .pages = omega arith in
+      let i : a .pages - (a .pages - 1) ≡ 1 = omega arith in
+      rw i (first-from (a .pages - 1) ∙ ap (λ (u : ℕ). entriesFrom a f u 0) n)
+
+-- ---- a cursor is moved on until it stands at an entry or behind the last one
+pub record Settling (a : Area) (f : List ℕ) (es : List Entry) (place end left : ℕ) : Type 0 where
+  pub ends : Ends a f end left
+  pub same : onward a f place end left ≡ es
+
+-- it stands there
+pub record Settled (a : Area) (f : List ℕ) (es : List Entry) (c : Cursor) : Type 0 where
+  pub sound : Sound a f c
+  pub same : ahead a f c ≡ es
+
+pub settling-start : {a : Area} {f : List ℕ} {place end left : ℕ} → Ends a f end left → Settling a f (onward a f place end left) place end left
+settling-start e = record { ends = e; same = refl }
+
+module _ {a : Area} {f g : List ℕ} {es : List Entry} {place end left n : ℕ} (s : Settling a f es place end left) (w : g ≡ take end f) (q : n ≡ lengthAt g place) where
+  entry : n ≡ lengthAt (take end f) place
+  entry = q ∙ ap (λ (u : List ℕ). lengthAt u place) w
+
+  pub settling-on : Right a f → n ≡ 0 → (left ≡ 0 → ⊥) → Settling a f es (end + 2) (end + a .words) (left - 1)
+  unfolding onward
+  settling-on r z y =
+      record { ends = ends-next r (s .ends) y; same = sym (onward-next r end left (s .ends) y) ∙ rw (entries-end (take end f) place entry z) at (s .same) }
+
+  settled-by : (n ≡ 0 → left ≡ 0) → Settled a f es (record { place = place; length = n; end = end; left = left })
+  settled-by l =
+      let i = s .ends .inside in
+      let m : length (take end f) ≡ end = length-take-le end f i in
+      record { sound = record { ends = s .ends; length = entry; fits = omega (arith, entry, length-inside (take end f) place); last = l }; same = s .same }
+
+  pub settled-entry : (n ≡ 0 → ⊥) → Settled a f es (record { place = place; length = n; end = end; left = left })
+  settled-entry z = settled-by (λ q. absurd (z q))
+
+  pub settled-last : left ≡ 0 → Settled a f es (record { place = place; length = n; end = end; left = left })
+  settled-last z = settled-by (λ q. z)
+
+-- ---- the entry at a cursor, and those behind it
+module _ {a : Area} {f : List ℕ} {c : Cursor} (s : Sound a f c) where
+  pub ahead-end : c .length ≡ 0 → ahead a f c ≡ []
+  unfolding onward
+  ahead-end z = let l = s .last z in rw (l, entries-end (take (c .end) f) (c .place) (s .length) z)
+
+  module _ (z : c .length ≡ 0 → ⊥) where
+    entry-at : entryAt (take (c .end) f) (c .place) (c .length) ≡ entryOf f c
+    unfolding entryAt entryOf
+    entry-at = let i = s .fits in rw (getD-take (c .end) f (c .place) 0 (omega arith))
+
+    pub ahead-on : ahead a f c ≡ entryOf f c ∷ onward a f (c .place + c .length) (c .end) (c .left)
+    unfolding onward
+    ahead-on = rw (entries-on (take (c .end) f) (c .place) (c .length) (s .length) z, entry-at)
+
+    -- its data words
+    pub entry-words : length (entryOf f c .words) ≡ c .length - 1
+    unfolding entryOf
+    entry-words =
+        let i = s .ends .inside in
+        let j = s .fits in
+        omega (arith, length-take (c .length - 1) (drop (suc (c .place)) (take (c .end) f)), length-drop (suc (c .place)) (take (c .end) f), length-take-le (c .end) f i)
+
+-- ---- the entries behind the one at a cursor
+abbrev pub behind : Area → List ℕ → Cursor → List Entry
+behind a f c = onward a f (c .place + c .length) (c .end) (c .left)
+
+pub settled-first : {a : Area} {f : List ℕ} {c : Cursor} → Settled a f (onward a f 2 (a .words) (a .pages - 1)) c → Right a f → Settled a f (entries a f) c
+settled-first s r = record { sound = s .sound; same = s .same ∙ first-onward r }
+
+-- with each step there are fewer
+pub fewer : {a : Area} {f : List ℕ} {c d : Cursor} → Settled a f (behind a f c) d → Sound a f c → (c .length ≡ 0 → ⊥) → length (ahead a f d) < length (ahead a f c)
+fewer w s z = rw (w .same, ahead-on s z) (omega arith)
+
+pub ruleset cursors = (first-ends, settling-start, settling-on, settled-entry, settled-last, settled-first)
+
+-- ---- a search for the first entry that passes a test has come to a cursor, o being what it will find
+pub record Finding (t : Entry → Bool) (a : Area) (f : List ℕ) (o : Option Entry) (c : Cursor) : Type 0 where
+  pub sound : Sound a f c
+  pub same : firstOf t (ahead a f c) ≡ o
+
+pub finding-start : {t : Entry → Bool} {a : Area} {f : List ℕ} {es : List Entry} {c : Cursor} → Settled a f es c → Finding t a f (firstOf t es) c
+finding-start {t} s = record { sound = s .sound; same = ap (firstOf t) (s .same) }
+
+pub finding-here : {t : Entry → Bool} {a : Area} {f : List ℕ} {c : Cursor} → Sound a f c → Finding t a f (firstOf t (ahead a f c)) c
+finding-here s = record { sound = s; same = refl }
+
+pub finding-end : {t : Entry → Bool} {a : Area} {f : List ℕ} {o : Option Entry} {c : Cursor} → Finding t a f o c → c .length ≡ 0 → none ≡ o
+finding-end {t} s z = ap (firstOf t) (sym (ahead-end (s .sound) z)) ∙ s .same
+
+module _ {t : Entry → Bool} {a : Area} {f : List ℕ} {o : Option Entry} {c : Cursor} (s : Finding t a f o c) (z : c .length ≡ 0 → ⊥) where
+  here : cond (t (entryOf f c)) (some (entryOf f c)) (firstOf t (behind a f c)) ≡ o
+  here = ap (firstOf t) (sym (ahead-on (s .sound) z)) ∙ s .same
+
+  pub finding-on : {d : Cursor} → Settled a f (behind a f c) d → t (entryOf f c) ≡ false → Finding t a f o d
+  finding-on d q = record { sound = d .sound; same = ap (firstOf t) (d .same) ∙ rw q at here }
+
+  pub finding-found : t (entryOf f c) ≡ true → some (entryOf f c) ≡ o
+  finding-found q = rw q at here
+
+  pub found-at : t (entryOf f c) ≡ true → Found.At (c .place) (c .length - 1) ≡ foundOf o
+  unfolding entryOf
+  found-at q = ap (λ (n : ℕ). Found.At (c .place) n) (sym (entry-words (s .sound) z)) ∙ ap foundOf (finding-found q)
+
+pub found-none : {t : Entry → Bool} {a : Area} {f : List ℕ} {o : Option Entry} {c : Cursor} → Finding t a f o c → c .length ≡ 0 → Found.None ≡ foundOf o
+found-none s z = ap foundOf (finding-end s z)
+
+-- whether an entry passes
+any-first : (t : Entry → Bool) (es : List Entry) → anyOf t es ≡ not (isNone (firstOf t es))
+any-first t [] = refl
+any-first t (e ∷ es) = go (t e) refl (any-first t es)
+  where
+    go : (b : Bool) → t e ≡ b → anyOf t es ≡ not (isNone (firstOf t es)) → anyOf t (e ∷ es) ≡ not (isNone (firstOf t (e ∷ es)))
+    go true q r = rw q
+    go false q r = rw q r
+
+module _ {r : Found} (k : ℕ) (es : List Entry) (e : r ≡ foundOf (find k es)) where
+  by-found : (b : Bool) → ((o : Option Entry) → foundOf o ≡ r → not (isNone o) ≡ b) → b ≡ anyOf (liveOf k) es
+  by-found b h = sym (any-first (liveOf k) es ∙ h (find k es) (sym e))
+
+  pub any-some : {p n : ℕ} → r ≡ Found.At p n → true ≡ anyOf (liveOf k) es
+  any-some {p} {n} q = by-found true go
+    where
+      go : (o : Option Entry) → foundOf o ≡ r → not (isNone o) ≡ true
+      go none w = let z : _≡_ {A = ℕ} 0 1 = cc in absurd (let y : ⊥ = omega arith in y)
+      go (some d) w = refl
+
+  pub any-none : r ≡ Found.None → false ≡ anyOf (liveOf k) es
+  any-none q = by-found false go
+    where
+      go : (o : Option Entry) → foundOf o ≡ r → not (isNone o) ≡ false
+      go none w = refl
+      go (some d) w = let z : _≡_ {A = ℕ} 0 1 = cc in absurd (let y : ⊥ = omega arith in y)
+
+-- what is found from a cursor on
+pub found-all : {r : Found} {a : Area} {f : List ℕ} {es : List Entry} {c : Cursor} (h : ℕ) → Settled a f es c → r ≡ foundOf (find h (ahead a f c)) → r ≡ foundOf (find h es)
+found-all h s e = e ∙ ap (λ (u : List Entry). foundOf (find h u)) (s .same)
+
+-- ---- the tests, by what is read at a cursor
+pub live-hit : {k : ℕ} (h : ℕ) (f : List ℕ) (c : Cursor) → (h ≡ 0 → ⊥) → k ≡ handleOf (getD f (c .place) 0) → k ≡ h → liveOf h (entryOf f c) ≡ true
+unfolding entryOf
+live-hit h f c z e q = rw (← e, q, ne-eqb h 0 z, eq-eqb h h refl)
+
+pub live-miss : {k : ℕ} (h : ℕ) (f : List ℕ) (c : Cursor) → (h ≡ 0 → ⊥) → k ≡ handleOf (getD f (c .place) 0) → (k ≡ h → ⊥) → liveOf h (entryOf f c) ≡ false
+unfolding entryOf
+live-miss {k} h f c z e q = rw (← e, ne-eqb h 0 z, ne-eqb k h q)
+
+-- an invalidated entry is none of its handle's live ones
+zero-none : (es : List Entry) → none ≡ find 0 es
+zero-none [] = refl
+zero-none (e ∷ es) = zero-none es
+
+pub find-dead : (h : ℕ) (es : List Entry) → h ≡ 0 → Found.None ≡ foundOf (find h es)
+find-dead h es z = rw z (ap foundOf (zero-none es))
+
+module _ {b : Bool} {k : ℕ} (mask pattern start : ℕ) (f : List ℕ) (c : Cursor) (e : k ≡ handleOf (getD f (c .place) 0)) (q : b ≡ isLive k && eqb (bitAnd k mask) (bitAnd pattern mask)) where
+  wanted-is : wanted mask pattern start (entryOf f c) ≡ ltb start (c .place) && b
+  unfolding entryOf
+  wanted-is = rw (q, e)
+
+  pub wanted-hit : ltb start (c .place) && b ≡ true → wanted mask pattern start (entryOf f c) ≡ true
+  wanted-hit t = wanted-is ∙ t
+
+  pub wanted-miss : ltb start (c .place) && b ≡ false → wanted mask pattern start (entryOf f c) ≡ false
+  wanted-miss t = wanted-is ∙ t
+
+pub place-hit : (p : ℕ) (f : List ℕ) (c : Cursor) → c .place ≡ p → isAt p (entryOf f c) ≡ true
+unfolding entryOf
+place-hit p f c e = eq-eqb (c .place) p e
+
+pub place-miss : (p : ℕ) (f : List ℕ) (c : Cursor) → (c .place ≡ p → ⊥) → isAt p (entryOf f c) ≡ false
+unfolding entryOf
+place-miss p f c e = ne-eqb (c .place) p e
+
+-- ---- BADPLACE
+pub place-start : (a : Area) (f : List ℕ) (p : ℕ) → p ≡ 0 → false ≡ badPlace a f p
+unfolding badPlace
+place-start a f p z = rw (eq-eqb p 0 z)
+
+module _ {a : Area} {f : List ℕ} {p : ℕ} {c : Cursor} (s : Finding (isAt p) a f (firstOf (isAt p) (entries a f)) c) (y : p ≡ 0 → ⊥) where
+  pub place-good : (c .length ≡ 0 → ⊥) → c .place ≡ p → false ≡ badPlace a f p
+  unfolding badPlace
+  place-good z q =
+      let t : anyOf (isAt p) (entries a f) ≡ true = any-first (isAt p) (entries a f) ∙ ap (λ (o : Option Entry). not (isNone o)) (sym (finding-found s z (place-hit p f c q))) in
+      rw (ne-eqb p 0 y, t)
+
+  pub place-bad : c .length ≡ 0 → true ≡ badPlace a f p
+  unfolding badPlace
+  place-bad z =
+      let t : anyOf (isAt p) (entries a f) ≡ false = any-first (isAt p) (entries a f) ∙ ap (λ (o : Option Entry). not (isNone o)) (sym (finding-end s z)) in
+      rw (ne-eqb p 0 y, t)
+
+-- ---- a search for a handle that is live twice has come to a cursor
+pub record Doubling (a : Area) (f : List ℕ) (b : Bool) (c : Cursor) : Type 0 where
+  pub sound : Sound a f c
+  pub same : twice (ahead a f c) ≡ b
+
+pub doubling-start : {a : Area} {f : List ℕ} {es : List Entry} {c : Cursor} → Settled a f es c → Doubling a f (twice es) c
+doubling-start s = record { sound = s .sound; same = ap twice (s .same) }
+
+pub doubling-end : {a : Area} {f : List ℕ} {b : Bool} {c : Cursor} → Doubling a f b c → c .length ≡ 0 → false ≡ b
+doubling-end s z = ap twice (sym (ahead-end (s .sound) z)) ∙ s .same
+
+module _ {a : Area} {f : List ℕ} {b t : Bool} {c d : Cursor} {k : ℕ} (s : Doubling a f b c) (w : Settled a f (behind a f c) d) (z : c .length ≡ 0 → ⊥)
+    (e : k ≡ handleOf (getD f (c .place) 0)) (q : t ≡ anyOf (liveOf k) (ahead a f d)) where
+  by-double : t || twice (ahead a f d) ≡ b
+  unfolding entryOf
+  by-double = rw (q, e, w .same) (ap twice (sym (ahead-on (s .sound) z)) ∙ s .same)
+
+  pub doubling-on : t ≡ false → Doubling a f b d
+  doubling-on n = record { sound = w .sound; same = rw n at by-double }
+
+  pub doubling-found : t ≡ true → true ≡ b
+  doubling-found n = rw n at by-double
+
+pub ruleset finds = (fewer, finding-start, finding-here, finding-on, found-at, found-none, found-all, live-hit, live-miss, find-dead, wanted-hit, wanted-miss)
+
+pub ruleset places = (fewer, finding-start, finding-on, place-miss, place-start, place-good, place-bad)
+
+pub ruleset doubles = (fewer, any-some, any-none, doubling-start, doubling-end, doubling-on, doubling-found)
