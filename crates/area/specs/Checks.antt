@@ -1,7 +1,8 @@
--- The geometry, pages one behind the other, and the checks of a request, from what a function has found: laws. Assumes nothing.
+-- What checks give, and laws: the geometry, the words of a page, damaged and ready, and the checks of a request, from what a function has
+-- found of each. Assumes nothing.
 use mathlib.Core.Path.{_≡_, refl, ap, sym, _∙_}
 use mathlib.Core.List.{List, [], _∷_, _++_}
-use mathlib.Core.Bool.{Bool, true, false, cond, not, _&&_, _||_}
+use mathlib.Core.Bool.{Bool, true, false, cond, not, _&&_}
 use Prim.Native.Nat.{ℕ, suc, _+_, _-_, _*_, _≤_, _<_}
 use native.Mathlib.Omega.{arith}
 use native.Mathlib.Nat.{mul-le-mul-right, suc-mul}
@@ -17,10 +18,9 @@ use Rattle.rules.specs.declared.Recovery.{Recovery}
 use Rattle.rules.specs.declared.Refusal.{Refusal}
 use Rattle.rules.specs.declared.Refusal.the-variants.{Geometry, Damaged, Unready}
 use Rattle.rules.specs.Words.{wordsOf, sizeOf}
-use Rattle.rules.specs.Walk.{isSealed, isSound}
-use Rattle.rules.specs.Areas.{base, page, kind, every, recovery, isFree, isDamage, names, entries, twice, damaged, ready}
+use Rattle.rules.specs.Areas.{base, page, every, recovery, isFree, isDamage, soundOrNamed, sealedAt, entries, twice, damaged, ready}
 use Rattle.rules.specs.Refusals.{wrongGeometry, unready, checked, recoverChecks, readyChecks}
-use Rattle.rules.specs.Laws.{size-words, Passed, checked-passed}
+use Rattle.rules.specs.Laws.{size-words, Passed, passed-checked, checked-passed, checked-append}
 use Rattle.rules.specs.Places.{Right, right-of, base-suc, length-page, page-in}
 use Rattle.area.specs.declared.Checked.{Checked}
 
@@ -89,12 +89,6 @@ module _ {a : Area} {f : List ℕ} (i : ℕ) (r : Right a f) (h : i ≤ a .pages
 pub ruleset parts = (page-cut, page-ends, page-long, base-fits, end-fits, bytes-fit)
 
 -- ---- damaged, ready
-abbrev pub soundOrNamed : Area → List ℕ → ℕ → Bool
-soundOrNamed a f i = names (recovery a f) i || isSound (kind a f i)
-
-abbrev pub sealedAt : Area → List ℕ → ℕ → Bool
-sealedAt a f i = isSealed (kind a f i)
-
 module _ {b : Bool} {r : Recovery} (a : Area) (f : List ℕ) (q : r ≡ recovery a f) (e : b ≡ isDamage r) where
   pub damaged-r : b ≡ true → true ≡ damaged a f
   unfolding damaged
@@ -138,10 +132,6 @@ refused-on {n = n} refused (c ∷ cs) ds x e = go (c .0) refl e (refused-on refu
         → refused n ≡ checked refused (c ∷ (cs ++ ds)) x
     go true q e ih = let z : n ≡ c .1 = cc in rw q (ap refused z)
     go false q e ih = rw q (ih e)
-
-passed-on : {A : Type 0} (refused : Refusal → A) (cs ds : List (Bool × Refusal)) (x : A) → Passed cs → checked refused (cs ++ ds) x ≡ checked refused ds x
-passed-on refused [] ds x p = refl
-passed-on refused (c ∷ cs) ds x p = rw (p .0) (passed-on refused cs ds x (p .1))
 
 -- those of a recovery
 pub checks-geometry : {g : Bool} (a : Area) (f : List ℕ) → g ≡ wrongGeometry a f → g ≡ true → Checked.Refused Geometry ≡ checksOf (recoverChecks a f)
@@ -187,4 +177,4 @@ module _ {A : Type 0} {r : Checked} (refused : Refusal → A) (a : Area) (f : Li
   ready-refused q = refused-on refused (readyChecks a f []) ds x (sym e ∙ q)
 
   pub ready-on : r ≡ Checked.Passed → checked refused (readyChecks a f ds) x ≡ checked refused ds x
-  ready-on q = passed-on refused (readyChecks a f []) ds x (passed (readyChecks a f []) e q)
+  ready-on q = checked-append refused (readyChecks a f []) ds x ∙ passed-checked refused (readyChecks a f []) (checked refused ds x) (passed (readyChecks a f []) e q)

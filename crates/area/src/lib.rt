@@ -1,17 +1,17 @@
 // A whole area, read only: its geometry, its pages and R, and whether it is damaged or ready.
 // Promises are the definitions of `rules`.
 //
-// Every function here is proved. `wrong_geometry` and the two that check take any area; the others
-// ask for a right geometry, which is what those have tested.
+// Every function here is proved. `wrong_geometry` and the two that check take any area; the other
+// public ones ask for a right geometry, which is what those have tested.
 ghost use mathlib.Core.List.{[]};
 ghost use mathlib.Core.Path.{_≡_};
 ghost use Prim.Native.Nat.{_≤_, _<_};
 ghost use lib.ListN.{length};
 ghost use Rattle.rules.specs.Walk.{isSealed, isSound};
-ghost use Rattle.rules.specs.Areas.{page, kind, every, recovery, isFree, isDamage, names, damaged, ready};
+ghost use Rattle.rules.specs.Areas.{page, kind, every, recovery, isFree, isDamage, names, soundOrNamed, sealedAt, damaged, ready};
 ghost use Rattle.rules.specs.Refusals.{wrongGeometry, recoverChecks, readyChecks};
 ghost use Rattle.rules.specs.Places.{Right};
-ghost use Rattle.area.specs.Checks.{soundOrNamed, sealedAt, checksOf};
+ghost use Rattle.area.specs.Checks.{checksOf};
 use rules::Area;
 use rules::FoundSize;
 use rules::Kind;

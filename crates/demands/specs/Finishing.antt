@@ -21,7 +21,7 @@ use Rattle.rules.specs.declared.Recovery.{Recovery}
 use Rattle.rules.specs.declared.Recovery.the-variants.{Free, Unfinished, Committed, Damage}
 use Rattle.rules.specs.Words.{meta0, meta1, seal}
 use Rattle.rules.specs.Walk.{codes, items, stop, kindOf, isSound}
-use Rattle.rules.specs.Areas.{R, base, page, kind, every, recovery, isDamage, names, entries, find, damaged, ready}
+use Rattle.rules.specs.Areas.{R, base, page, kind, every, recovery, isDamage, names, entries, find, soundOrNamed, damaged, ready}
 use Rattle.rules.specs.Lists.{erase, copyTo, finish, dropDoubles, recoverList}
 use Rattle.rules.specs.Laws.{nor-left, nor-right}
 use Rattle.rules.specs.Places.{page-in, length-page}
@@ -42,8 +42,8 @@ pub record Undamaged (a : Area) (f : List ℕ) : Type 0 where
 undamaged-pages : {a : Area} {f : List ℕ} → Undamaged a f → (i : ℕ) → i < a .pages → names (recovery a f) i || isSound (kind a f i) ≡ true
 unfolding damaged
 undamaged-pages {a} {f} u i h =
-    every-true (λ i. names (recovery a f) i || isSound (kind a f i)) (a .pages) 0
-    (not-false (every (λ i. names (recovery a f) i || isSound (kind a f i)) (a .pages) 0) (nor-right (isDamage (recovery a f)) _ (u .sound))) i zero-le (omega arith)
+    every-true (soundOrNamed a f) (a .pages) 0
+    (not-false (every (soundOrNamed a f) (a .pages) 0) (nor-right (isDamage (recovery a f)) _ (u .sound))) i zero-le (omega arith)
 
 undamaged-r : (a : Area) (f : List ℕ) → Undamaged a f → isDamage (recovery a f) ≡ false
 unfolding damaged
@@ -51,7 +51,7 @@ undamaged-r a f v = nor-left (isDamage (recovery a f)) _ (v .sound)
 
 pub undamaged-by : (a : Area) (f : List ℕ) → isDamage (recovery a f) ≡ false → ((i : ℕ) → i < a .pages → names (recovery a f) i || isSound (kind a f i) ≡ true) → damaged a f ≡ false
 unfolding damaged
-undamaged-by a f d h = rw (d, true-every (λ i. names (recovery a f) i || isSound (kind a f i)) (a .pages) 0 (λ i lo hi. h i (omega arith)))
+undamaged-by a f d h = rw (d, true-every (soundOrNamed a f) (a .pages) 0 (λ i lo hi. h i (omega arith)))
 
 pub mended-undamaged : {a : Area} {j : ℕ} {f : List ℕ} → Mended a j f → Undamaged a f
 mended-undamaged m = record { given = m .given; sound = mended-sound m }

@@ -18,7 +18,7 @@ use Rattle.rules.specs.declared.Recovery.{Recovery}
 use Rattle.rules.specs.declared.Recovery.the-variants.{Free, Unfinished, Committed, Damage}
 use Rattle.rules.specs.Words.{indexOf, header, seal, meta1}
 use Rattle.rules.specs.Walk.{Item, entryLength, codes, items, stop, allBlank, kindOf, isSealed, isSound}
-use Rattle.rules.specs.Areas.{R, base, page, kind, every, recoveryOf, recovery, isFree, Entry, entries, twice, damaged, ready, mapOf, liveWords}
+use Rattle.rules.specs.Areas.{R, base, page, kind, every, recoveryOf, recovery, isFree, Entry, entries, twice, soundOrNamed, sealedAt, damaged, ready, mapOf, liveWords}
 use Rattle.rules.specs.Refusals.{unready}
 use Rattle.rules.specs.Lists.{bare}
 use Rattle.rules.specs.Laws.{and-left, and-right}
@@ -129,27 +129,27 @@ mended-free {a} m = rw (m .spare) (blank-free (a .pages) (a .words))
 pub mended-sound : {a : Area} {j : ℕ} {f : List ℕ} → Mended a j f → damaged a f ≡ false
 unfolding damaged
 mended-sound {a} {j} {f} m =
-    rw (mended-free m, true-every (λ i. isSound (kind a f i)) (a .pages) 0 (λ i lo hi. m .sound i (omega arith)))
+    rw (mended-free m, true-every (soundOrNamed a f) (a .pages) 0 (λ i lo hi. rw (mended-free m) (m .sound i (omega arith))))
 
 pub settled-ready : {a : Area} {f : List ℕ} → Settled a f → twice (entries a f) ≡ false → ready a f ≡ true
 unfolding ready
 settled-ready {a} {f} s t =
-    rw (mended-free s, t, true-every (λ i. isSealed (kind a f i)) (a .pages) 0 (λ i lo hi. rw (s .done i (omega arith) (omega arith))))
+    rw (mended-free s, t, true-every (sealedAt a f) (a .pages) 0 (λ i lo hi. rw (s .done i (omega arith) (omega arith))))
 
 pub ready-settled : {a : Area} {f : List ℕ} → Usable a f → ready a f ≡ true → Settled a f × (twice (entries a f) ≡ false)
 unfolding ready
 ready-settled {a} {f} g e =
     let p = and-right (isFree (recovery a f)) _ e in
     let fr = is-free (recovery a f) (and-left (isFree (recovery a f)) _ e) in
-    let q = and-left (every (λ i. isSealed (kind a f i)) (a .pages) 0) _ p in
-    let w : (i : ℕ) → i < a .pages → kind a f i ≡ Sealed = λ i h. is-sealed (kind a f i) (every-true (λ i. isSealed (kind a f i)) (a .pages) 0 q i zero-le (omega arith)) in (
+    let q = and-left (every (sealedAt a f) (a .pages) 0) _ p in
+    let w : (i : ℕ) → i < a .pages → kind a f i ≡ Sealed = λ i h. is-sealed (kind a f i) (every-true (sealedAt a f) (a .pages) 0 q i zero-le (omega arith)) in (
       record {
         given = g;
         spare = free-blank (a .pages) (page a f (a .pages)) fr ∙ ap blanks (length-page a f (a .pages) (page-in (shape-of g) (a .pages) (omega arith)));
         sound = λ i h. rw (w i h);
         done = λ i h l. w i h;
       },
-      not-true (twice (entries a f)) (and-right (every (λ i. isSealed (kind a f i)) (a .pages) 0) _ p),
+      not-true (twice (entries a f)) (and-right (every (sealedAt a f) (a .pages) 0) _ p),
     )
 
 -- the checks that requests begin with

@@ -16,7 +16,7 @@ use Rattle.rules.specs.Walk.{walkIn, items}
 use Rattle.rules.specs.Areas.{base, page, Entry, placed, pageEntries, entriesFrom, entries, anyOf, firstOf, liveOf, twice, find}
 use Rattle.rules.specs.Refusals.{isNone}
 use Rattle.rules.specs.Search.{wanted, isAt, badPlace}
-use Rattle.rules.specs.Places.{Right, base-suc, base-zero, base-le}
+use Rattle.rules.specs.Places.{Right, base-suc, base-zero, base-in}
 use Rattle.pages.specs.Steps.{lengthAt, walkAt, entriesAt, entryAt, length-inside, entries-on, entries-end}
 use Rattle.entries.specs.declared.Cursor.{Cursor}
 use Rattle.entries.specs.declared.Found.{Found}
@@ -25,6 +25,14 @@ use Rattle.entries.specs.declared.Found.{Found}
 abbrev pub foundOf : Option Entry → Found
 foundOf none = Found.None
 foundOf (some e) = Found.At (e .place) (length (e .words))
+
+pub found-none : {r : Found} (o : Option Entry) → r ≡ foundOf o → r ≡ Found.None → o ≡ none
+found-none none e q = refl
+found-none (some d) e q = absurd (let z : _≡_ {A = ℕ} 0 1 = cc in let y : ⊥ = omega arith in y)
+
+pub found-some : {r : Found} {p n : ℕ} (o : Option Entry) → r ≡ foundOf o → r ≡ Found.At p n → (d : Entry) × (o ≡ some d) × (d .place ≡ p) × (length (d .words) ≡ n)
+found-some none e q = absurd (let z : _≡_ {A = ℕ} 0 1 = cc in let y : ⊥ = omega arith in y)
+found-some (some d) e q = (d, refl, cc, cc)
 
 -- ---- cursors
 -- the entries from a place on, to the end of a page and of the pages behind it
@@ -47,7 +55,7 @@ pub record Ends (a : Area) (f : List ℕ) (end left : ℕ) : Type 0 where
 -- a cursor stands at an entry, or behind the last one
 pub record Sound (a : Area) (f : List ℕ) (c : Cursor) : Type 0 where
   pub ends : Ends a f (c .end) (c .left)
-  pub length : c .length ≡ lengthAt (take (c .end) f) (c .place)
+  pub entry : c .length ≡ lengthAt (take (c .end) f) (c .place)
   pub fits : c .length ≤ c .end - c .place - 1
   pub last : c .length ≡ 0 → c .left ≡ 0
 
@@ -63,24 +71,21 @@ page-onward a f i h =
 
 -- where a page has no entry left, the next one's follow
 module _ {a : Area} {f : List ℕ} (r : Right a f) where
-  inside-run : (i : ℕ) → i ≤ a .pages → base a i ≤ length f
-  inside-run i h = rw (r .long) (base-le a i (suc (a .pages)) (omega arith))
-
-  pub ends-next : {end left : ℕ} → Ends a f end left → (left ≡ 0 → ⊥) → Ends a f (end + a .words) (left - 1)
+  ends-next : {end left : ℕ} → Ends a f end left → (left ≡ 0 → ⊥) → Ends a f (end + a .words) (left - 1)
   ends-next {end} {left} e z =
       let b = e .behind in
       let i : suc (a .pages - left) ≡ a .pages - (left - 1) = omega arith in
       let q : base a (a .pages - (left - 1)) ≡ end + a .words = ap (base a) (sym i) ∙ base-suc a (a .pages - left) ∙ ap (λ (u : ℕ). u + a .words) (sym (e .place)) in
-      record { behind = omega arith; place = sym q; inside = subst (λ (u : ℕ). u ≤ length f) q (inside-run (a .pages - (left - 1)) (omega arith)) }
+      record { behind = omega arith; place = sym q; inside = subst (λ (u : ℕ). u ≤ length f) q (base-in r (a .pages - (left - 1)) (omega arith)) }
 
-  pub onward-next : (end left : ℕ) → Ends a f end left → (left ≡ 0 → ⊥) → entriesFrom a f left (a .pages - left) ≡ onward a f (end + 2) (end + a .words) (left - 1)
+  onward-next : (end left : ℕ) → Ends a f end left → (left ≡ 0 → ⊥) → entriesFrom a f left (a .pages - left) ≡ onward a f (end + 2) (end + a .words) (left - 1)
   unfolding onward
   onward-next end zero e z = absurd (z refl)
   onward-next end (suc l) e z =
       let b = e .behind in
       let i : suc (a .pages - suc l) ≡ a .pages - l = omega arith in
       let k : suc l - 1 ≡ l = omega arith in
-      rw (i, k, e .place, page-onward a f (a .pages - suc l) (inside-run (a .pages - suc l) (omega arith)))
+      rw (i, k, e .place, page-onward a f (a .pages - suc l) (base-in r (a .pages - suc l) (omega arith)))
 
   -- the first page
   pub first-ends : Ends a f (a .words) (a .pages - 1)
@@ -88,16 +93,16 @@ module _ {a : Area} {f : List ℕ} (r : Right a f) where
       let s = r .some-pages in
       let i : a .pages - (a .pages - 1) ≡ 1 = omega arith in
       let q : base a (a .pages - (a .pages - 1)) ≡ a .words = ap (base a) i ∙ base-suc a 0 ∙ ap (λ (u : ℕ). u + a .words) (base-zero a) ∙ omega arith in
-      record { behind = omega arith; place = sym q; inside = subst (λ (u : ℕ). u ≤ length f) q (inside-run (a .pages - (a .pages - 1)) (omega arith)) }
+      record { behind = omega arith; place = sym q; inside = subst (λ (u : ℕ). u ≤ length f) q (base-in r (a .pages - (a .pages - 1)) (omega arith)) }
 
   first-from : (n : ℕ) → entriesAt (take (a .words) f) 2 ++ entriesFrom a f n 1 ≡ entriesFrom a f (suc n) 0
   first-from n =
       let w : base a 0 + a .words ≡ a .words = omega (arith, base-zero a) in
       let t : base a 0 + 2 ≡ 2 = omega (arith, base-zero a) in
-      let p : pageEntries a f 0 ≡ entriesAt (take (a .words) f) 2 = page-onward a f 0 (inside-run 0 (omega arith)) ∙ rw (w, t) in
+      let p : pageEntries a f 0 ≡ entriesAt (take (a .words) f) 2 = page-onward a f 0 (base-in r 0 (omega arith)) ∙ rw (w, t) in
       ap (λ (u : List Entry). u ++ entriesFrom a f n 1) (sym p)
 
-  pub first-onward : onward a f 2 (a .words) (a .pages - 1) ≡ entries a f
+  first-onward : onward a f 2 (a .words) (a .pages - 1) ≡ entries a f
   unfolding onward entries
   first-onward =
       let s = r .some-pages in
@@ -131,7 +136,7 @@ module _ {a : Area} {f g : List ℕ} {es : List Entry} {place end left n : ℕ} 
   settled-by l =
       let i = s .ends .inside in
       let m : length (take end f) ≡ end = length-take-le end f i in
-      record { sound = record { ends = s .ends; length = entry; fits = omega (arith, entry, length-inside (take end f) place); last = l }; same = s .same }
+      record { sound = record { ends = s .ends; entry = entry; fits = omega (arith, entry, length-inside (take end f) place); last = l }; same = s .same }
 
   pub settled-entry : (n ≡ 0 → ⊥) → Settled a f es (record { place = place; length = n; end = end; left = left })
   settled-entry z = settled-by (λ q. absurd (z q))
@@ -141,21 +146,21 @@ module _ {a : Area} {f g : List ℕ} {es : List Entry} {place end left n : ℕ} 
 
 -- ---- the entry at a cursor, and those behind it
 module _ {a : Area} {f : List ℕ} {c : Cursor} (s : Sound a f c) where
-  pub ahead-end : c .length ≡ 0 → ahead a f c ≡ []
+  ahead-end : c .length ≡ 0 → ahead a f c ≡ []
   unfolding onward
-  ahead-end z = let l = s .last z in rw (l, entries-end (take (c .end) f) (c .place) (s .length) z)
+  ahead-end z = let l = s .last z in rw (l, entries-end (take (c .end) f) (c .place) (s .entry) z)
 
   module _ (z : c .length ≡ 0 → ⊥) where
     entry-at : entryAt (take (c .end) f) (c .place) (c .length) ≡ entryOf f c
     unfolding entryAt entryOf
     entry-at = let i = s .fits in rw (getD-take (c .end) f (c .place) 0 (omega arith))
 
-    pub ahead-on : ahead a f c ≡ entryOf f c ∷ onward a f (c .place + c .length) (c .end) (c .left)
+    ahead-on : ahead a f c ≡ entryOf f c ∷ onward a f (c .place + c .length) (c .end) (c .left)
     unfolding onward
-    ahead-on = rw (entries-on (take (c .end) f) (c .place) (c .length) (s .length) z, entry-at)
+    ahead-on = rw (entries-on (take (c .end) f) (c .place) (c .length) (s .entry) z, entry-at)
 
     -- its data words
-    pub entry-words : length (entryOf f c .words) ≡ c .length - 1
+    entry-words : length (entryOf f c .words) ≡ c .length - 1
     unfolding entryOf
     entry-words =
         let i = s .ends .inside in
@@ -186,7 +191,7 @@ finding-start {t} s = record { sound = s .sound; same = ap (firstOf t) (s .same)
 pub finding-here : {t : Entry → Bool} {a : Area} {f : List ℕ} {c : Cursor} → Sound a f c → Finding t a f (firstOf t (ahead a f c)) c
 finding-here s = record { sound = s; same = refl }
 
-pub finding-end : {t : Entry → Bool} {a : Area} {f : List ℕ} {o : Option Entry} {c : Cursor} → Finding t a f o c → c .length ≡ 0 → none ≡ o
+finding-end : {t : Entry → Bool} {a : Area} {f : List ℕ} {o : Option Entry} {c : Cursor} → Finding t a f o c → c .length ≡ 0 → none ≡ o
 finding-end {t} s z = ap (firstOf t) (sym (ahead-end (s .sound) z)) ∙ s .same
 
 module _ {t : Entry → Bool} {a : Area} {f : List ℕ} {o : Option Entry} {c : Cursor} (s : Finding t a f o c) (z : c .length ≡ 0 → ⊥) where
@@ -196,15 +201,15 @@ module _ {t : Entry → Bool} {a : Area} {f : List ℕ} {o : Option Entry} {c : 
   pub finding-on : {d : Cursor} → Settled a f (behind a f c) d → t (entryOf f c) ≡ false → Finding t a f o d
   finding-on d q = record { sound = d .sound; same = ap (firstOf t) (d .same) ∙ rw q at here }
 
-  pub finding-found : t (entryOf f c) ≡ true → some (entryOf f c) ≡ o
+  finding-found : t (entryOf f c) ≡ true → some (entryOf f c) ≡ o
   finding-found q = rw q at here
 
   pub found-at : t (entryOf f c) ≡ true → Found.At (c .place) (c .length - 1) ≡ foundOf o
   unfolding entryOf
   found-at q = ap (λ (n : ℕ). Found.At (c .place) n) (sym (entry-words (s .sound) z)) ∙ ap foundOf (finding-found q)
 
-pub found-none : {t : Entry → Bool} {a : Area} {f : List ℕ} {o : Option Entry} {c : Cursor} → Finding t a f o c → c .length ≡ 0 → Found.None ≡ foundOf o
-found-none s z = ap foundOf (finding-end s z)
+pub ends-none : {t : Entry → Bool} {a : Area} {f : List ℕ} {o : Option Entry} {c : Cursor} → Finding t a f o c → c .length ≡ 0 → Found.None ≡ foundOf o
+ends-none s z = ap foundOf (finding-end s z)
 
 -- whether an entry passes
 any-first : (t : Entry → Bool) (es : List Entry) → anyOf t es ≡ not (isNone (firstOf t es))
@@ -216,22 +221,11 @@ any-first t (e ∷ es) = go (t e) refl (any-first t es)
     go false q r = rw q r
 
 module _ {r : Found} (k : ℕ) (es : List Entry) (e : r ≡ foundOf (find k es)) where
-  by-found : (b : Bool) → ((o : Option Entry) → foundOf o ≡ r → not (isNone o) ≡ b) → b ≡ anyOf (liveOf k) es
-  by-found b h = sym (any-first (liveOf k) es ∙ h (find k es) (sym e))
-
   pub any-some : {p n : ℕ} → r ≡ Found.At p n → true ≡ anyOf (liveOf k) es
-  any-some {p} {n} q = by-found true go
-    where
-      go : (o : Option Entry) → foundOf o ≡ r → not (isNone o) ≡ true
-      go none w = let z : _≡_ {A = ℕ} 0 1 = cc in absurd (let y : ⊥ = omega arith in y)
-      go (some d) w = refl
+  any-some q = sym (any-first (liveOf k) es ∙ ap (λ (o : Option Entry). not (isNone o)) (found-some (find k es) e q .1))
 
   pub any-none : r ≡ Found.None → false ≡ anyOf (liveOf k) es
-  any-none q = by-found false go
-    where
-      go : (o : Option Entry) → foundOf o ≡ r → not (isNone o) ≡ false
-      go none w = refl
-      go (some d) w = let z : _≡_ {A = ℕ} 0 1 = cc in absurd (let y : ⊥ = omega arith in y)
+  any-none q = sym (any-first (liveOf k) es ∙ ap (λ (o : Option Entry). not (isNone o)) (found-none (find k es) e q))
 
 -- what is found from a cursor on
 pub found-all : {r : Found} {a : Area} {f : List ℕ} {es : List Entry} {c : Cursor} (h : ℕ) → Settled a f es c → r ≡ foundOf (find h (ahead a f c)) → r ≡ foundOf (find h es)
@@ -265,7 +259,7 @@ module _ {b : Bool} {k : ℕ} (mask pattern start : ℕ) (f : List ℕ) (c : Cur
   pub wanted-miss : ltb start (c .place) && b ≡ false → wanted mask pattern start (entryOf f c) ≡ false
   wanted-miss t = wanted-is ∙ t
 
-pub place-hit : (p : ℕ) (f : List ℕ) (c : Cursor) → c .place ≡ p → isAt p (entryOf f c) ≡ true
+place-hit : (p : ℕ) (f : List ℕ) (c : Cursor) → c .place ≡ p → isAt p (entryOf f c) ≡ true
 unfolding entryOf
 place-hit p f c e = eq-eqb (c .place) p e
 
@@ -314,7 +308,7 @@ module _ {a : Area} {f : List ℕ} {b t : Bool} {c d : Cursor} {k : ℕ} (s : Do
   pub doubling-found : t ≡ true → true ≡ b
   doubling-found n = rw n at by-double
 
-pub ruleset finds = (fewer, finding-start, finding-here, finding-on, found-at, found-none, found-all, live-hit, live-miss, find-dead, wanted-hit, wanted-miss)
+pub ruleset finds = (fewer, finding-start, finding-here, finding-on, found-at, ends-none, found-all, live-hit, live-miss, find-dead, wanted-hit, wanted-miss)
 
 pub ruleset places = (fewer, finding-start, finding-on, place-miss, place-start, place-good, place-bad)
 

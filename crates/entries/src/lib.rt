@@ -2,7 +2,7 @@
 // are live twice, the next match of a filter, and the places of headers. Promises are the
 // definitions of `rules`.
 //
-// Every function here is proved. Each asks for a right geometry.
+// Every function here is proved. Each public one asks for a right geometry.
 ghost use mathlib.Core.Bool.{_&&_};
 ghost use mathlib.Core.Path.{_≡_};
 ghost use Prim.Native.Nat.{_≤_, _<_};
@@ -40,8 +40,8 @@ fn up_to(flash: &[u32], end: usize) -> &[u32]
     &flash[..end]
 }
 
-// The cursor at the first entry from a place on, with the end of the place's page and the number of
-// pages left behind it.
+// The cursor at the first entry from a place on, or behind the last entry. With the place go the end
+// of its page and the number of pages left behind that.
 fn settle(flash: &[u32], area: Area, place: usize, end: usize, left: usize) -> Cursor
     requires { ⌜ Right area (now flash) × Ends area (now flash) end left ⌝ }
     ensures { λ r. ⌜ Settled area (now (flash .entry)) (onward area (now (flash .entry)) place end left) r ⌝ }
@@ -113,7 +113,7 @@ fn find_from(flash: &[u32], area: Area, start: Cursor, handle: u32) -> Found
     Found::None
 }
 
-// The live entry of a handle.
+// The first live entry of a handle in area order; none for handle 0000.
 pub fn find(flash: &[u32], area: Area, handle: u32) -> Found
     requires { ⌜ Right area (now flash) ⌝ }
     ensures { λ r. ⌜ r ≡ foundOf (find handle (entries area (now (flash .entry)))) ⌝ }

@@ -9,7 +9,7 @@ use Rattle.rules.specs.declared.Refusal.{Refusal}
 use Rattle.rules.specs.declared.Yielded.{Yielded}
 use Rattle.rules.specs.Search.{stepOf, placeAfter, moved}
 use Rattle.manager.specs.declared.object.Search.{Search}
-use Rattle.manager.specs.Object.{seen, opened, stepped}
+use Rattle.manager.specs.Object.{seen, stepped, Opens, Steps}
 
 -- its step is the rules' step
 pub stepped-moved : (s : Search) → seen (stepped s) ≡ moved (seen s)
@@ -31,8 +31,8 @@ pub yielded-moves : (s : Search) (place : ℕ) → stepOf (seen s) ≡ Yielded.A
 yielded-moves s place e = ap (placeAfter (s .place)) e
 
 -- ---- one outcome, and no other
-pub open-settles : (run : RefT (List ℕ)) (area : Area) (mask pattern place : ℕ) {r t : Search} → r ≡ opened run area mask pattern place → t ≡ opened run area mask pattern place → r ≡ t
+pub open-settles : (run : RefT (List ℕ)) (area : Area) (mask pattern place : ℕ) {r t : Search} → Opens run area mask pattern place r → Opens run area mask pattern place t → r ≡ t
 open-settles run area mask pattern place = settled
 
-pub step-settles : (s : Search) {t u : Search} {q r : Yielded} → (q ≡ stepOf (seen s)) × (t ≡ stepped s) → (r ≡ stepOf (seen s)) × (u ≡ stepped s) → (q ≡ r) × (t ≡ u)
+pub step-settles : (s : Search) {t u : Search} {q r : Yielded} → Steps s q t → Steps s r u → (q ≡ r) × (t ≡ u)
 step-settles s x y = (settled (x .0) (y .0), settled (x .1) (y .1))

@@ -1,10 +1,10 @@
--- What read and search answer, from what the area's functions have found: laws; and that no promise allows two answers. Assumes nothing.
-use mathlib.Core.Path.{_≡_, refl, sym, _∙_}
+-- What read and search promise; laws: what they answer, from what the area's functions have found; and that no promise allows two answers.
+-- Assumes nothing.
+use mathlib.Core.Path.{_≡_, ap, sym, _∙_}
 use mathlib.Core.List.{List, [], _∷_}
 use mathlib.Core.Bool.{Bool, true, false, cond}
-use mathlib.Core.Option.{Option, some, none}
+use mathlib.Core.Option.{Option}
 use Prim.Native.Nat.{ℕ}
-use native.Mathlib.Omega.{arith}
 use Rattle.flash.specs.Laws.{settled}
 use Rattle.rules.specs.declared.Area.{Area}
 use Rattle.rules.specs.declared.Refusal.{Refusal}
@@ -17,16 +17,14 @@ use Rattle.rules.specs.Search.{placeOf, dataLength, readOf, next, badPlace, sea
 use Rattle.area.specs.declared.Checked.{Checked}
 use Rattle.entries.specs.declared.Found.{Found}
 use Rattle.area.specs.Checks.{checksOf, ready-refused, ready-on, ready-right}
-use Rattle.entries.specs.Ahead.{foundOf}
+use Rattle.entries.specs.Ahead.{foundOf, found-none, found-some}
 
--- ---- what is found
-found-none : (o : Option Entry) → foundOf o ≡ Found.None → isNone o ≡ true
-found-none none e = refl
-found-none (some d) e = absurd (let z : _≡_ {A = ℕ} 0 1 = cc in let y : ⊥ = omega arith in y)
+-- ---- the promises
+abbrev pub Reads : Area → ℕ → List ℕ → Reading → Type 0
+Reads a h f r = r ≡ readOf a h f
 
-found-some : {p n : ℕ} (o : Option Entry) → foundOf o ≡ Found.At p n → (isNone o ≡ false) × (placeOf o ≡ p) × (dataLength o ≡ n)
-found-some none e = absurd (let z : _≡_ {A = ℕ} 0 1 = cc in let y : ⊥ = omega arith in y)
-found-some (some d) e = (refl, cc, cc)
+abbrev pub Searches : Area → ℕ → ℕ → ℕ → List ℕ → Yielded → Type 0
+Searches a mask pattern place f r = r ≡ searchOf a mask pattern place f
 
 -- ---- read
 module _ {k : Checked} (a : Area) (f : List ℕ) (h : ℕ) (e : k ≡ checksOf (readyChecks a f [])) where
@@ -51,10 +49,12 @@ module _ {k : Checked} (a : Area) (f : List ℕ) (h : ℕ) (e : k ≡ checksOf (
 
     module _ {r : Found} (t : b ≡ false) (d : r ≡ foundOf (find h (entries a f))) where
       pub read-none : r ≡ Found.None → Reading.Refused NotFound ≡ readOf a h f
-      read-none g = sym (read-by ∙ rw (t, found-none entry (sym d ∙ g)))
+      read-none g = sym (read-by ∙ rw (t, ap isNone (found-none entry d g)))
 
       pub read-at : {p n : ℕ} → r ≡ Found.At p n → Reading.At p n ≡ readOf a h f
-      read-at g = let w = found-some entry (sym d ∙ g) in sym (read-by ∙ rw (t, w .0, w .1, w .2))
+      read-at g =
+          let w = found-some entry d g in
+          sym (read-by ∙ rw (t, ap isNone (w .1), ap placeOf (w .1), ap dataLength (w .1), w .2, w .3))
 
 pub ruleset reads = (ready-right, read-refused, read-bad-handle, read-none, read-at)
 
@@ -81,16 +81,18 @@ module _ {k : Checked} (a : Area) (f : List ℕ) (mask pattern place : ℕ) (e :
 
     module _ {r : Found} (t : b ≡ false) (d : r ≡ foundOf (next a f mask pattern place)) where
       pub search-none : r ≡ Found.None → Yielded.Refused NotFound ≡ searchOf a mask pattern place f
-      search-none g = sym (search-by ∙ rw (t, found-none match (sym d ∙ g)))
+      search-none g = sym (search-by ∙ rw (t, ap isNone (found-none match d g)))
 
       pub search-at : {p n : ℕ} → r ≡ Found.At p n → Yielded.At p ≡ searchOf a mask pattern place f
-      search-at g = let w = found-some match (sym d ∙ g) in sym (search-by ∙ rw (t, w .0, w .1))
+      search-at g =
+          let w = found-some match d g in
+          sym (search-by ∙ rw (t, ap isNone (w .1), ap placeOf (w .1), w .2))
 
 pub ruleset searches = (ready-right, search-refused, search-bad-place, search-none, search-at)
 
 -- ---- one answer, and no other
-pub read-settles : (a : Area) (h : ℕ) (f : List ℕ) {r s : Reading} → r ≡ readOf a h f → s ≡ readOf a h f → r ≡ s
+pub read-settles : (a : Area) (h : ℕ) (f : List ℕ) {r s : Reading} → Reads a h f r → Reads a h f s → r ≡ s
 read-settles a h f = settled
 
-pub search-settles : (a : Area) (mask pattern place : ℕ) (f : List ℕ) {r s : Yielded} → r ≡ searchOf a mask pattern place f → s ≡ searchOf a mask pattern place f → r ≡ s
+pub search-settles : (a : Area) (mask pattern place : ℕ) (f : List ℕ) {r s : Yielded} → Searches a mask pattern place f r → Searches a mask pattern place f s → r ≡ s
 search-settles a mask pattern place f = settled

@@ -4,7 +4,7 @@
 // is answered. A request that reads changes no word.
 ghost use mathlib.Core.Path.{_≡_};
 ghost use Rattle.rules.specs.Refusals.{badHandle};
-ghost use Rattle.rules.specs.Search.{readOf, searchOf};
+ghost use Rattle.manager.specs.Reading.{Reads, Searches};
 use area::Checked;
 use entries::Found;
 use rules::Area;
@@ -23,9 +23,10 @@ fn bad_handle(handle: u32) -> bool
 }
 
 // Where a handle's data lie: the place of its live entry's header in the run, one word before the
-// data, and the number of data words. Nothing is copied.
+// data, and the number of data words. Nothing is copied. Refused are a wrong geometry, a damaged or
+// unready area, a bad handle, and one that has no live entry.
 pub fn read(flash: &[u32], area: Area, handle: u16) -> Reading
-    ensures { λ r. ⌜ r ≡ readOf area handle (now (flash .entry)) ⌝ }
+    ensures { λ r. ⌜ Reads area handle (now (flash .entry)) r ⌝ }
 {
     match area::check_ready(flash, area) {
         Checked::Refused(why) => Reading::Refused(why),
@@ -41,10 +42,12 @@ pub fn read(flash: &[u32], area: Area, handle: u16) -> Reading
     }
 }
 
-// The place of the next entry behind a place that is live and whose handle agrees with the pattern
-// in the bits of the mask. The place is 0 or that of an entry's header.
+// The place of the next entry behind a place, 0 being the beginning, that is live and whose handle
+// agrees with the pattern in the bits of the mask. Refused are a wrong geometry, a damaged or
+// unready area, a place that is neither 0 nor that of an entry's header, and a search without a
+// further match.
 pub fn search(flash: &[u32], area: Area, mask: u16, pattern: u16, place: usize) -> Yielded
-    ensures { λ r. ⌜ r ≡ searchOf area mask pattern place (now (flash .entry)) ⌝ }
+    ensures { λ r. ⌜ Searches area mask pattern place (now (flash .entry)) r ⌝ }
 {
     match area::check_ready(flash, area) {
         Checked::Refused(why) => Yielded::Refused(why),

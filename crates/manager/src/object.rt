@@ -3,8 +3,8 @@
 //
 // Every function here is proved, and none has a `requires`.
 ghost use mathlib.Core.Path.{_≡_};
-ghost use Rattle.rules.specs.Search.{placeAfter, stepOf};
-ghost use Rattle.manager.specs.Object.{seen, opened, stepped};
+ghost use Rattle.rules.specs.Search.{placeAfter};
+ghost use Rattle.manager.specs.Object.{Opens, Steps};
 use rules::Area;
 use rules::Yielded;
 
@@ -20,7 +20,7 @@ impl<'a> Search<'a> {
     // Opens a search behind a place, 0 being the beginning. It is never refused: every step checks
     // the area and the place.
     pub fn open(run: &'a [u32], area: Area, mask: u16, pattern: u16, place: usize) -> Search<'a>
-        ensures { λ r. ⌜ r ≡ opened (run .entry) area mask pattern place ⌝ }
+        ensures { λ r. ⌜ Opens (run .entry) area mask pattern place r ⌝ }
     {
         Search {
             run,
@@ -33,7 +33,7 @@ impl<'a> Search<'a> {
 
     // Yields the place of the next match and moves there. A refused step yields 0 and stays.
     pub fn step(&mut self) -> Yielded
-        ensures { λ r. ⌜ (r ≡ stepOf (seen (now (self .entry)))) × (now (self .exit) ≡ stepped (now (self .entry))) ⌝ }
+        ensures { λ r. ⌜ Steps (now (self .entry)) r (now (self .exit)) ⌝ }
     {
         let place = self.place;
         let yielded = crate::search(self.run, self.area, self.mask, self.pattern, place);

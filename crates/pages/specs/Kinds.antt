@@ -18,6 +18,7 @@ use Rattle.rules.specs.declared.Recovery.the-variants.{Free, Unfinished, Commit
 use Rattle.rules.specs.Words.{indexOf, lengthOf, seal}
 use Rattle.rules.specs.Walk.{begins, walkIn, rest, stop, allBlank, endKind, metaRight, kindOf, isSealed}
 use Rattle.rules.specs.Areas.{recoveryOf}
+use Rattle.pages.specs.Steps.{short-rest}
 
 -- ---- the words from at to i are blank: those from i on decide
 pub record Blanking (p : List ℕ) (at i : ℕ) : Type 0 where
@@ -59,7 +60,7 @@ rest-suffix zero (w ∷ ws) = go (begins w ws) refl (rest-suffix (lengthOf w - 1
         rw q (omega (arith, r .0), rw e (r .1))
     go false q r = let e : suc (length ws) - suc (length ws) ≡ 0 = omega arith in rw q (omega arith, rw e refl)
 
-pub rest-stop : (p : List ℕ) → rest p ≡ drop (stop p) p
+rest-stop : (p : List ℕ) → rest p ≡ drop (stop p) p
 unfolding rest stop
 rest-stop p = ⊎-elim long short (le-or-lt 2 (length p))
   where
@@ -72,7 +73,7 @@ rest-stop p = ⊎-elim long short (le-or-lt 2 (length p))
 
     short : length p < 2 → walkIn 0 (drop 2 p) .rest ≡ drop (length p - length (walkIn 0 (drop 2 p) .rest)) p
     short h =
-        let r : walkIn 0 (drop 2 p) .rest ≡ [] = ap (λ (u : List ℕ). walkIn 0 u .rest) (drop-of-length-le p {i = 2} (omega arith)) in
+        let r : walkIn 0 (drop 2 p) .rest ≡ [] = short-rest p h in
         let d : drop (length p - 0) p ≡ [] = drop-of-length-le p {i = length p - 0} (omega arith) in
         rw r (sym d)
 

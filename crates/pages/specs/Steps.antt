@@ -8,11 +8,11 @@ use native.Mathlib.Omega.{arith}
 use lib.ListN.{length, getD, take, drop, length-take, length-drop, drop-of-length-le}
 use lib.Seq.{drop-cons, drop-drop}
 use lib.Dec.{leb, ltb}
-use borrow.Author.Tests.{leb-true, eq-eqb, ne-eqb}
+use borrow.Author.Tests.{eq-eqb, ne-eqb}
 use Rattle.rules.specs.Words.{longest, handleOf, lengthOf, special, isLive}
 use Rattle.rules.specs.Walk.{begins, Walked, taken, walkIn, items, rest, stop}
 use Rattle.rules.specs.Areas.{Entry, placed, liveWords}
-use Rattle.rules.specs.Laws.{and-left, and-right}
+use Rattle.rules.specs.Laws.{begins-fits}
 
 -- ---- the length of the entry that begins at a place, 0 if none does
 abbrev pub lengthIn : List ℕ → ℕ
@@ -39,21 +39,6 @@ entryAt p at n = record { place = at; handle = handleOf (getD p at 0); words = t
 abbrev pub isHeader : ℕ → ℕ → ℕ → Bool
 isHeader h l r = ltb h special && (leb 1 l && (leb l longest && leb l r))
 
--- a header: its entry has a word, and ends before the page's last
-record Header (w : ℕ) (ws : List ℕ) : Type 0 where
-  some : 1 ≤ lengthOf w
-  fits : lengthOf w ≤ length ws
-
-header : (w : ℕ) (ws : List ℕ) → begins w ws ≡ true → Header w ws
-unfolding begins
-header w ws e =
-    let l = lengthOf w in
-    let a = and-right (ltb (handleOf w) special) _ e in
-    record {
-      some = leb-true 1 l (and-left (leb 1 l) _ a);
-      fits = leb-true l (length ws) (and-right (leb l longest) _ (and-right (leb 1 l) _ a));
-    }
-
 begins-room : (p : List ℕ) (at w : ℕ) → begins w (drop (suc at) p) ≡ isHeader (handleOf w) (lengthOf w) (length p - at - 1)
 unfolding begins
 begins-room p at w = let e : length (drop (suc at) p) ≡ length p - at - 1 = omega (arith, length-drop (suc at) p) in rw e
@@ -68,7 +53,7 @@ length-within [] = omega arith
 length-within (w ∷ ws) = go (begins w ws) refl
   where
     go : (t : Bool) → begins w ws ≡ t → cond t (lengthOf w) 0 ≤ length (w ∷ ws) - 1
-    go true e = let i = header w ws e .fits in omega arith
+    go true e = let i = begins-fits w ws e in omega (arith, i .1)
     go false e = omega arith
 
 pub length-inside : (p : List ℕ) (at : ℕ) → lengthAt p at ≤ length p - at - 1
@@ -101,7 +86,7 @@ module _ (p : List ℕ) (at : ℕ) where
   stops z = go (drop at p) z
     where
       here : (w : ℕ) (ws : List ℕ) (t : Bool) → begins w ws ≡ t → cond t (lengthOf w) 0 ≡ 0 → walkIn 0 (w ∷ ws) ≡ record { items = []; rest = w ∷ ws }
-      here w ws true e z = let i = header w ws e .some in absurd (let y : ⊥ = omega arith in y)
+      here w ws true e z = let i = begins-fits w ws e in absurd (let y : ⊥ = omega (arith, i .0) in y)
       here w ws false e z = rw e
 
       go : (ws : List ℕ) → lengthIn ws ≡ 0 → walkIn 0 ws ≡ record { items = []; rest = ws }
@@ -133,13 +118,14 @@ module _ (p : List ℕ) (at n : ℕ) (e : n ≡ lengthAt p at) (z : n ≡ 0 → 
       let d : suc at + (n - 1) ≡ at + n = omega arith in
       rw (drop-cons p at 0 inside, h .0) (ap (λ (r : Walked). taken w (drop (suc at) p) r) (walk-behind (lengthOf w - 1) (drop (suc at) p) ∙ rw (b, drop-drop (n - 1) (suc at) p, d)))
 
+  pub data-words : length (take (n - 1) (drop (suc at) p)) + 1 ≡ n
+  data-words = omega (arith, length-take (n - 1) (drop (suc at) p), length-drop (suc at) p, length-inside p at)
+
   pub entries-on : entriesAt p at ≡ entryAt p at n ∷ entriesAt p (at + n)
   unfolding entriesAt entryAt
-  entries-on =
-      let l : length (take (n - 1) (drop (suc at) p)) + 1 ≡ n = omega (arith, length-take (n - 1) (drop (suc at) p), length-drop (suc at) p, length-inside p at) in
-      rw (goes-on, at-header .1, l)
+  entries-on = rw (goes-on, at-header .1, data-words)
 
-  pub rest-on : walkAt p at .rest ≡ walkAt p (at + n) .rest
+  rest-on : walkAt p at .rest ≡ walkAt p (at + n) .rest
   rest-on = ap (λ (r : Walked). r .rest) goes-on
 
 pub entries-end : {n : ℕ} (p : List ℕ) (at : ℕ) → n ≡ lengthAt p at → n ≡ 0 → entriesAt p at ≡ []
@@ -165,7 +151,7 @@ walking-end {p} {at} w e z =
     let r : rest p ≡ drop at p = sym (w .same) ∙ ap (λ (r : Walked). r .rest) (stops p at (sym e ∙ z)) in
     rw r (omega (arith, length-drop at p))
 
-short-rest : (p : List ℕ) → length p < 2 → rest p ≡ []
+pub short-rest : (p : List ℕ) → length p < 2 → rest p ≡ []
 unfolding rest
 short-rest p h = ap (λ (u : List ℕ). walkIn 0 u .rest) (drop-of-length-le p {i = 2} (omega arith))
 
@@ -173,44 +159,43 @@ pub short-stop : (p : List ℕ) → length p < 2 → length p ≡ stop p
 unfolding stop
 short-stop p h = rw (short-rest p h) (omega arith)
 
+-- the page's entries by its own places
+page-entries : (p : List ℕ) → entriesAt p 2 ≡ placed 2 (items p)
+unfolding entriesAt walkAt items
+page-entries p = refl
+
 -- ---- a count of live words has come to a place
 -- what an entry of n words counts
 abbrev pub counted : ℕ → ℕ → ℕ
 counted h n = cond (isLive h) n 0
 
 pub record Counting (p : List ℕ) (at sum : ℕ) : Type 0 where
-  pub same : sum + liveWords (entriesAt p at) ≡ liveWords (entriesAt p 2)
+  pub same : sum + liveWords (entriesAt p at) ≡ liveWords (placed 2 (items p))
   pub below : sum ≤ at
   pub inside : at ≤ length p
 
 pub counting-start : {p : List ℕ} → 2 ≤ length p → Counting p 2 0
-counting-start h = record { same = omega arith; below = omega arith; inside = h }
+counting-start {p} h = record { same = omega (arith, ap liveWords (page-entries p)); below = omega arith; inside = h }
 
 pub counting-on : {p : List ℕ} {at sum n m h : ℕ} → Counting p at sum → n ≡ lengthAt p at → (n ≡ 0 → ⊥) → m ≡ counted h n → m ≤ n → h ≡ handleOf (getD p at 0)
     → Counting p (at + n) (sum + m)
 unfolding entryAt
 counting-on {p} {at} {sum} {n} {m} c e z d l q =
-    let k : length (take (n - 1) (drop (suc at) p)) + 1 ≡ n = omega (arith, length-take (n - 1) (drop (suc at) p), length-drop (suc at) p, length-inside p at) in
-    let s : sum + (m + liveWords (entriesAt p (at + n))) ≡ liveWords (entriesAt p 2) = rw (d, q) (rw (entries-on p at n e z, k) at (c .same)) in
+    let s : sum + (m + liveWords (entriesAt p (at + n))) ≡ liveWords (placed 2 (items p)) = rw (d, q) (rw (entries-on p at n e z, data-words p at n e z) at (c .same)) in
     let b = c .below in
     record { same = omega arith; below = omega arith; inside = omega (arith, length-inside p at) }
 
-pub counting-end : {p : List ℕ} {at sum n : ℕ} → Counting p at sum → n ≡ lengthAt p at → n ≡ 0 → sum ≡ liveWords (entriesAt p 2)
+pub counting-end : {p : List ℕ} {at sum n : ℕ} → Counting p at sum → n ≡ lengthAt p at → n ≡ 0 → sum ≡ liveWords (placed 2 (items p))
 counting-end {p} {at} {sum} c e z = let s = rw (entries-end p at e z) at (c .same) in omega arith
 
-pub short-live : (p : List ℕ) → length p < 2 → 0 ≡ liveWords (entriesAt p 2)
-short-live p h = rw (entries-end p 2 (length-outside p 2 (omega arith)) refl)
+pub short-live : (p : List ℕ) → length p < 2 → 0 ≡ liveWords (placed 2 (items p))
+short-live p h = ap liveWords (sym (entries-end p 2 (length-outside p 2 (omega arith)) refl) ∙ page-entries p)
 
 pub counted-live : (h n : ℕ) → (h ≡ 0 → ⊥) → n ≡ counted h n
 counted-live h n z = rw (ne-eqb h 0 z)
 
 pub counted-dead : (h n : ℕ) → h ≡ 0 → 0 ≡ counted h n
 counted-dead h n z = rw (eq-eqb h 0 z)
-
--- the page's entries by its own places
-pub page-entries : (p : List ℕ) → entriesAt p 2 ≡ placed 2 (items p)
-unfolding entriesAt walkAt items
-page-entries p = refl
 
 pub ruleset steps = (length-outside, length-header, length-fits, length-none, walking-start, walking-on, walking-end, short-stop)
 

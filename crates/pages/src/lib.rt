@@ -1,14 +1,15 @@
 // One page, on a slice of its words: header fields, the walk, the page's kind, its live words, and
-// what a recovery page is. Promises are the definitions of `rules`.
+// what a recovery page is. Promises are the definitions of `rules`, and `lengthAt`, which says the
+// walk's test of one place.
 //
 // Every function here is proved, and none has a `requires`.
 ghost use mathlib.Core.Path.{_≡_};
 ghost use Prim.Native.Nat.{_-_, _≤_, _<_};
 ghost use lib.ListN.{length, drop};
 ghost use Rattle.rules.specs.Words.{handleOf, lengthOf};
-ghost use Rattle.rules.specs.Walk.{stop, allBlank, metaRight, kindOf};
-ghost use Rattle.rules.specs.Areas.{recoveryOf, liveWords};
-ghost use Rattle.pages.specs.Steps.{lengthAt, entriesAt, counted};
+ghost use Rattle.rules.specs.Walk.{items, stop, allBlank, metaRight, kindOf};
+ghost use Rattle.rules.specs.Areas.{placed, recoveryOf, liveWords};
+ghost use Rattle.pages.specs.Steps.{lengthAt, counted};
 use flash::BLANK;
 use rules::Kind;
 use rules::META0;
@@ -136,15 +137,15 @@ pub fn recovery_of(page: &[u32], pages: u32) -> Recovery
 }
 
 // What an entry counts as live words: its length, if it is live.
-fn counted(handle: u32, length: usize) -> usize
-    ensures { λ r. ⌜ (r ≡ counted handle length) × (r ≤ length) ⌝ }
+fn counted(handle: u32, words: usize) -> usize
+    ensures { λ r. ⌜ (r ≡ counted handle words) × (r ≤ words) ⌝ }
 {
-    if handle == 0 { 0 } else { length }
+    if handle == 0 { 0 } else { words }
 }
 
 // The live words of a page.
 pub fn live_words(page: &[u32]) -> usize
-    ensures { λ r. ⌜ (r ≡ liveWords (entriesAt (now (page .entry)) 2)) × (r ≤ length (now (page .entry))) ⌝ }
+    ensures { λ r. ⌜ (r ≡ liveWords (placed 2 (items (now (page .entry))))) × (r ≤ length (now (page .entry))) ⌝ }
 {
     if page.len() < 2 {
         return 0;

@@ -1,8 +1,7 @@
 -- What a search over pages answers, and laws: the live words of an area and the page that an entry goes to, from what a loop over pages has
 -- found. Assumes nothing.
-use mathlib.Core.Path.{_≡_, refl, ap, _∙_}
+use mathlib.Core.Path.{_≡_, ap, _∙_}
 use mathlib.Core.List.{List}
-use mathlib.Core.Bool.{Bool, true, false, cond}
 use mathlib.Core.Option.{Option, some, none}
 use Prim.Native.Nat.{ℕ, suc, zero, _+_, _≤_, _<_}
 use native.Mathlib.Omega.{arith}
@@ -16,11 +15,11 @@ use Rattle.rules.specs.declared.Area.{Area}
 use Rattle.rules.specs.declared.PageSize.{PageSize}
 use Rattle.rules.specs.Words.{wordsOf, openWords, lastSeal}
 use Rattle.rules.specs.Walk.{items}
-use Rattle.rules.specs.Areas.{base, page, pageEntries, entriesFrom, entries, liveWords}
-use Rattle.rules.specs.Lists.{lowest, leavesRoom, roomPage, makesRoom, compactPage}
+use Rattle.rules.specs.Areas.{base, page, placed, pageEntries, entriesFrom, entries, liveWords}
+use Rattle.rules.specs.Lists.{leavesRoom, roomPage, makesRoom, compactPage}
 use Rattle.rules.specs.Laws.{live-append, live-anywhere}
 use Rattle.rules.specs.Places.{Right, base-suc, page-in}
-use Rattle.pages.specs.Steps.{lengthAt, entriesAt, Walking, walking-start, walking-on, walking-end, page-entries}
+use Rattle.pages.specs.Steps.{lengthAt, Walking, walking-start, walking-on, walking-end}
 use Rattle.room.specs.declared.FoundPage.{FoundPage}
 use Rattle.room.specs.declared.FoundPage.the-variants.{At, None}
 use Rattle.area.specs.Seeking.{Seeking, seeking-start, seeking-on, seeking-found, seeking-none}
@@ -32,8 +31,8 @@ foundPage none = None
 foundPage (some i) = At i
 
 -- ---- the live words of a page, wherever it stands
-page-live : (a : Area) (f : List ℕ) (i : ℕ) {p : List ℕ} {m : ℕ} → p ≡ page a f i → m ≡ liveWords (entriesAt p 2) → m ≡ liveWords (pageEntries a f i)
-page-live a f i {p} q e = e ∙ ap liveWords (page-entries p) ∙ rw q (live-anywhere 2 (base a i + 2) (items (page a f i)))
+page-live : (a : Area) (f : List ℕ) (i : ℕ) {p : List ℕ} {m : ℕ} → p ≡ page a f i → m ≡ liveWords (placed 2 (items p)) → m ≡ liveWords (pageEntries a f i)
+page-live a f i {p} q e = e ∙ rw q (live-anywhere 2 (base a i + 2) (items (page a f i)))
 
 -- ---- a sum of live words has come to page i
 pub record Summing (a : Area) (f : List ℕ) (i sum : ℕ) : Type 0 where
@@ -52,7 +51,7 @@ more a f i sum m zero h c s e b = absurd (let z : ⊥ = omega arith in z)
 more a f i sum m (suc k) h c s e b =
     record { left = k; count = omega arith; same = omega (arith, live-append (pageEntries a f i) (entriesFrom a f k (suc i))); below = b }
 
-pub summing-on : {a : Area} {f p : List ℕ} {i sum m : ℕ} → Summing a f i sum → i < a .pages → p ≡ page a f i → length p ≡ a .words → m ≡ liveWords (entriesAt p 2)
+pub summing-on : {a : Area} {f p : List ℕ} {i sum m : ℕ} → Summing a f i sum → i < a .pages → p ≡ page a f i → length p ≡ a .words → m ≡ liveWords (placed 2 (items p))
     → m ≤ length p → Summing a f (i + 1) (sum + m)
 summing-on {a} {f} {p} {i} {sum} {m} s h q l e w =
     let b = s .below in
@@ -83,40 +82,9 @@ sum-below {a} {i = i} s r =
 
 pub ruleset sums = (summing-start, summing-on, sum-fits, summing-end, sum-below)
 
--- ---- what a search over pages says of the page found
-pub found-some : {r : FoundPage} {i : ℕ} (o : Option ℕ) → r ≡ foundPage o → r ≡ At i → o ≡ some i
-found-some none e q = absurd (let z : _≡_ {A = ℕ} 0 1 = cc in omega arith)
-found-some (some j) e q = cc
-
-pub found-none : {r : FoundPage} (o : Option ℕ) → r ≡ foundPage o → r ≡ None → o ≡ none
-found-none none e q = refl
-found-none (some j) e q = absurd (let z : _≡_ {A = ℕ} 0 1 = cc in omega arith)
-
-lowest-below : (t : ℕ → Bool) (n j i : ℕ) → lowest t n j ≡ some i → i < j + n
-lowest-below t zero j i e = absurd (let z : _≡_ {A = ℕ} 0 1 = cc in omega arith)
-lowest-below t (suc n) j i e = go (t j) e (lowest-below t n (suc j) i)
-  where
-    go : (b : Bool) → cond b (some j) (lowest t n (suc j)) ≡ some i → (lowest t n (suc j) ≡ some i → i < suc j + n) → i < j + suc n
-    go true q ih = let z : j ≡ i = cc in omega arith
-    go false q ih = let h = ih q in omega arith
-
-found-below : {r : FoundPage} (t : ℕ → Bool) (n i : ℕ) → r ≡ foundPage (lowest t n 0) → r ≡ At i → i < n
-found-below t n i e q = let h = lowest-below t n 0 i (found-some (lowest t n 0) e q) in omega arith
-
-module _ {r : FoundPage} {i : ℕ} (a : Area) (f : List ℕ) (l : ℕ) where
-  pub compact-below : r ≡ foundPage (compactPage a f l) → r ≡ At i → i < a .pages
-  unfolding compactPage
-  compact-below e q = found-below (makesRoom a f l) (a .pages) i e q
-
-  pub room-below : r ≡ foundPage (roomPage a f l) → r ≡ At i → i < a .pages
-  unfolding roomPage
-  room-below e q = found-below (leavesRoom a f l) (a .pages) i e q
-
-pub ruleset answers = (found-some, found-none, compact-below, room-below)
-
 -- ---- the page whose compaction makes room
 module _ (a : Area) (f : List ℕ) (l : ℕ) (z : PageSize) {p : List ℕ} {i m d : ℕ} (s : Seeking (makesRoom a f l) (a .pages) i) (h : i < a .pages)
-    (e : m ≡ liveWords (entriesAt p 2)) (q : p ≡ page a f i) (w : wordsOf z ≡ a .words) (o : d ≡ openWords (wordsOf z)) where
+    (e : m ≡ liveWords (placed 2 (items p))) (q : p ≡ page a f i) (w : wordsOf z ≡ a .words) (o : d ≡ openWords (wordsOf z)) where
   makes : makesRoom a f l i ≡ leb (m + l) d
   unfolding makesRoom
   makes = rw (page-live a f i q e, o, w)

@@ -36,45 +36,45 @@ pub fn live_words(flash: &[u32], area: Area) -> usize
 }
 
 // The lowest page whose compaction makes room for an entry of so many words.
-pub fn compact_page(flash: &[u32], area: Area, size: PageSize, length: usize) -> FoundPage
-    requires { ⌜ Right area (now flash) × (wordsOf size ≡ area .words) × (length ≤ longest) ⌝ }
-    ensures { λ r. ⌜ r ≡ foundPage (compactPage area (now (flash .entry)) length) ⌝ }
+pub fn compact_page(flash: &[u32], area: Area, size: PageSize, needed: usize) -> FoundPage
+    requires { ⌜ Right area (now flash) × (wordsOf size ≡ area .words) × (needed ≤ longest) ⌝ }
+    ensures { λ r. ⌜ r ≡ foundPage (compactPage area (now (flash .entry)) needed) ⌝ }
 {
     let space = size.open_words();
-    let mut i: usize = 0;
-    while i < area.pages {
-        let live = pages::live_words(page_part(flash, area, i));
-        if live + length <= space {
-            return FoundPage::At(i);
+    let mut index: usize = 0;
+    while index < area.pages {
+        let live = pages::live_words(page_part(flash, area, index));
+        if live + needed <= space {
+            return FoundPage::At(index);
         }
-        i += 1;
+        index += 1;
     }
     FoundPage::None
 }
 
 // The lowest page whose seal leaves the room for an entry of so many words.
-pub fn room_page(flash: &[u32], area: Area, size: PageSize, length: usize) -> FoundPage
-    requires { ⌜ Right area (now flash) × (wordsOf size ≡ area .words) × (length ≤ longest) ⌝ }
-    ensures { λ r. ⌜ r ≡ foundPage (roomPage area (now (flash .entry)) length) ⌝ }
+pub fn room_page(flash: &[u32], area: Area, size: PageSize, needed: usize) -> FoundPage
+    requires { ⌜ Right area (now flash) × (wordsOf size ≡ area .words) × (needed ≤ longest) ⌝ }
+    ensures { λ r. ⌜ r ≡ foundPage (roomPage area (now (flash .entry)) needed) ⌝ }
 {
     let last = size.last_seal();
-    let mut i = 0;
+    let mut index: usize = 0;
     'pages: loop {
-        if area.pages <= i {
+        if area.pages <= index {
             break 'pages FoundPage::None;
         }
-        let page = page_part(flash, area, i);
+        let page = page_part(flash, area, index);
         let mut at: usize = 2;
         'entries: loop {
             let step = pages::length_at(page, at);
             if step == 0 {
-                if at + length <= last {
-                    break 'pages FoundPage::At(i);
+                if at + needed <= last {
+                    break 'pages FoundPage::At(index);
                 }
                 break 'entries;
             }
             at += step;
         }
-        i += 1;
+        index += 1;
     }
 }

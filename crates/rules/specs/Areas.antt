@@ -107,11 +107,18 @@ twice [] = false
 twice (e ∷ es) = doubled e es || twice es
 
 -- ---- damaged, ready
+-- whether page i is sealed or torn, or R names it
+abbrev pub soundOrNamed : Area → List ℕ → ℕ → Bool
+soundOrNamed a f i = names (recovery a f) i || isSound (kind a f i)
+
+abbrev pub sealedAt : Area → List ℕ → ℕ → Bool
+sealedAt a f i = isSealed (kind a f i)
+
 unfoldable pub damaged : Area → List ℕ → Bool
-damaged a f = isDamage (recovery a f) || not (every (λ i. names (recovery a f) i || isSound (kind a f i)) (a .pages) 0)
+damaged a f = isDamage (recovery a f) || not (every (soundOrNamed a f) (a .pages) 0)
 
 unfoldable pub ready : Area → List ℕ → Bool
-ready a f = isFree (recovery a f) && (every (λ i. isSealed (kind a f i)) (a .pages) 0 && not (twice (entries a f)))
+ready a f = isFree (recovery a f) && (every (sealedAt a f) (a .pages) 0 && not (twice (entries a f)))
 
 -- ---- the map
 -- the live entry of a handle

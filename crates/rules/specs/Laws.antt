@@ -91,14 +91,13 @@ begins-at p at h two =
     ⊎-elim (λ (q : 1 ≤ l). rw (ends-at p at l h two q)) (λ (q : l < 1). rw (lt-leb 1 l q)) (le-or-lt 1 l)
 
 -- ---- the walk
-begins-leaves : (w : ℕ) (ws : List ℕ) → begins w ws ≡ true → lengthOf w - 1 < length ws
+-- an entry has a header, and leaves the page's last word
+pub begins-fits : (w : ℕ) (ws : List ℕ) → begins w ws ≡ true → (1 ≤ lengthOf w) × (lengthOf w ≤ length ws)
 unfolding begins
-begins-leaves w ws e =
+begins-fits w ws e =
     let l = lengthOf w in
     let a = and-right (ltb (handleOf w) special) _ e in
-    let one = leb-true 1 l (and-left (leb 1 l) _ a) in
-    let fits = leb-true l (length ws) (and-right (leb l longest) _ (and-right (leb 1 l) _ a)) in
-    omega arith
+    (leb-true 1 l (and-left (leb 1 l) _ a), leb-true l (length ws) (and-right (leb l longest) _ (and-right (leb 1 l) _ a)))
 
 rest-some : (k : ℕ) (ws : List ℕ) → k < length ws → 0 < length (walkIn k ws .rest)
 rest-some k [] h = absurd (let z : ⊥ = omega arith in z)
@@ -106,7 +105,7 @@ rest-some (suc k) (w ∷ ws) h = rest-some k ws (omega arith)
 rest-some zero (w ∷ ws) h = go (begins w ws) refl (rest-some (lengthOf w - 1) ws)
   where
     go : (t : Bool) → begins w ws ≡ t → (lengthOf w - 1 < length ws → 0 < length (walkIn (lengthOf w - 1) ws .rest)) → 0 < length (walkIn 0 (w ∷ ws) .rest)
-    go true q more = rw q (more (begins-leaves w ws q))
+    go true q more = let b = begins-fits w ws q in rw q (more (omega (arith, b .0, b .1)))
     go false q more = rw q (omega arith)
 
 -- it stops inside its page
@@ -164,6 +163,11 @@ ran-outcome ss k {f} x =
 abbrev pub Passed : List (Bool × Refusal) → Type 0
 Passed [] = Unit {0}
 Passed (c ∷ cs) = (c .0 ≡ false) × Passed cs
+
+-- the later ones count where none of the earlier ones applies
+pub checked-append : {A : Type 0} (refused : Refusal → A) (cs ds : List (Bool × Refusal)) (x : A) → checked refused (cs ++ ds) x ≡ checked refused cs (checked refused ds x)
+checked-append {A} refused [] ds x = refl
+checked-append {A} refused (c ∷ cs) ds x = ap (λ (y : A). cond (c .0) (refused (c .1)) y) (checked-append refused cs ds x)
 
 pub passed-checked : {A : Type 0} (refused : Refusal → A) (cs : List (Bool × Refusal)) (x : A) → Passed cs → checked refused cs x ≡ x
 passed-checked refused [] x p = refl

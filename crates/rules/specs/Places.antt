@@ -47,6 +47,7 @@ pub record Right (a : Area) (f : List ℕ) : Type 0 where
   pub many : a .pages ≤ 255
   pub wide : 64 ≤ a .words
   pub narrow : a .words ≤ 1024
+  pub listed : isListed (sizeOf (a .words)) ≡ true
   pub long : length f ≡ base a (suc (a .pages))
 
 pub size-listed : (P : ℕ) → (P ≡ 64) ⊎ ((P ≡ 256) ⊎ (P ≡ 1024)) → isListed (sizeOf P) ≡ true
@@ -95,11 +96,15 @@ module _ (a : Area) (f : List ℕ) (e : wrongGeometry a f ≡ false) where
     many = leb-true (a .pages) 255 (and-right (leb 1 (a .pages)) (leb (a .pages) 255) is-few);
     wide = ⊎-elim (λ q. omega arith) (λ t. ⊎-elim (λ q. omega arith) (λ q. omega arith) t) right-size;
     narrow = ⊎-elim (λ q. omega arith) (λ t. ⊎-elim (λ q. omega arith) (λ q. omega arith) t) right-size;
+    listed = not-false known (nor-left (not known) (not whole) others);
     long = right-long ∙ ap (λ (u : ℕ). u * a .words) (add-one (a .pages));
   }
 
 pub right-at : {a : Area} {f : List ℕ} (g : List ℕ) → Right a f → length g ≡ length f → Right a g
-right-at g r l = record { some-pages = r .some-pages; many = r .many; wide = r .wide; narrow = r .narrow; long = l ∙ r .long }
+right-at g r l = record { some-pages = r .some-pages; many = r .many; wide = r .wide; narrow = r .narrow; listed = r .listed; long = l ∙ r .long }
+
+pub base-in : {a : Area} {f : List ℕ} → Right a f → (i : ℕ) → i ≤ suc (a .pages) → base a i ≤ length f
+base-in {a} r i h = rw (r .long) (base-le a i (suc (a .pages)) h)
 
 pub page-in : {a : Area} {f : List ℕ} → Right a f → (i : ℕ) → i ≤ a .pages → base a (suc i) ≤ length f
-page-in {a} r i h = rw (r .long) (base-le a (suc i) (suc (a .pages)) (suc-le-suc h))
+page-in r i h = base-in r (suc i) (suc-le-suc h)

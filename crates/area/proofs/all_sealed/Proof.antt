@@ -1,7 +1,7 @@
 -- `all_sealed` asks one page behind the other. Assumes nothing.
 use Prim.Native.Nat.{_-_}
 use borrow.Author.Needs.{needs}
-use Rattle.area.specs.Checks.{sealedAt}
+use Rattle.rules.specs.Areas.{sealedAt}
 use Rattle.area.specs.Seeking.{Testing, tests}
 use Rattle.area.proofs.all_sealed.Statement.{statement}
 use Rattle.area.proofs.all_sealed.Tie as tie

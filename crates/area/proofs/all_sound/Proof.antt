@@ -1,7 +1,7 @@
 -- `all_sound` asks one page behind the other. Assumes nothing.
 use Prim.Native.Nat.{_-_}
 use borrow.Author.Needs.{needs}
-use Rattle.area.specs.Checks.{soundOrNamed}
+use Rattle.rules.specs.Areas.{soundOrNamed}
 use Rattle.area.specs.Seeking.{Testing, tests}
 use Rattle.area.proofs.all_sound.Statement.{statement}
 use Rattle.area.proofs.all_sound.Tie as tie

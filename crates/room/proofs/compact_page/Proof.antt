@@ -8,10 +8,10 @@ use Rattle.room.proofs.compact_page.Statement.{statement}
 use Rattle.room.proofs.compact_page.Tie as tie
 
 abbrev Inv-loop : tie.InvT-loop
-Inv-loop flash area length space i₀ i = Seeking (makesRoom area flash length) (area .pages) i
+Inv-loop flash area needed space index₀ index = Seeking (makesRoom area flash needed) (area .pages) index
 
 abbrev μ-loop : tie.MeasureT-loop
-μ-loop flash area length space i₀ i = area .pages - i
+μ-loop flash area needed space index₀ index = area .pages - index
 
 open-words-requires : tie.Need-open-words-requires Inv-loop μ-loop
 open-words-requires c κs = search (needs, compacts)
@@ -31,8 +31,8 @@ add-if2 c = search (needs, compacts)
 returns : tie.Need-returns Inv-loop μ-loop
 returns c = search (needs, compacts)
 
-add-i : tie.Need-add-i Inv-loop μ-loop
-add-i c = search (needs, compacts)
+add-index : tie.Need-add-index Inv-loop μ-loop
+add-index c = search (needs, compacts)
 
 loop-less : tie.Need-loop-less Inv-loop μ-loop
 loop-less c = search (needs, compacts)
@@ -55,7 +55,7 @@ compact-page-spec =
     live-words-requires
     add-if2
     returns
-    add-i
+    add-index
     loop-less
     loop-again
     returns-2)

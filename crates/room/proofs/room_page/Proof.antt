@@ -10,16 +10,16 @@ use Rattle.room.proofs.room_page.Statement.{statement}
 use Rattle.room.proofs.room_page.Tie as tie
 
 abbrev Inv-entries : tie.InvT-entries
-Inv-entries flash area l last i page at₀ at = Walking page at
+Inv-entries flash area needed last index page at₀ at = Walking page at
 
 abbrev μ-entries : tie.MeasureT-entries
-μ-entries flash area l last i page at₀ at = length page - at
+μ-entries flash area needed last index page at₀ at = length page - at
 
 abbrev Inv-pages : tie.InvT-pages
-Inv-pages flash area l last i₀ i = Seeking (leavesRoom area flash l) (area .pages) i
+Inv-pages flash area needed last index₀ index = Seeking (leavesRoom area flash needed) (area .pages) index
 
 abbrev μ-pages : tie.MeasureT-pages
-μ-pages flash area l last i₀ i = area .pages - i
+μ-pages flash area needed last index₀ index = area .pages - index
 
 last-seal-requires : tie.Need-last-seal-requires Inv-entries μ-entries Inv-pages μ-pages
 last-seal-requires c κs = search (needs, rooms)
@@ -48,8 +48,8 @@ entries-less c = search (needs, rooms)
 entries-again : tie.Need-entries-again Inv-entries μ-entries Inv-pages μ-pages
 entries-again c = search (needs, rooms)
 
-add-i : tie.Need-add-i Inv-entries μ-entries Inv-pages μ-pages
-add-i c = search (needs, rooms)
+add-index : tie.Need-add-index Inv-entries μ-entries Inv-pages μ-pages
+add-index c = search (needs, rooms)
 
 pages-less : tie.Need-pages-less Inv-entries μ-entries Inv-pages μ-pages
 pages-less c = search (needs, rooms)
@@ -80,7 +80,7 @@ room-page-spec =
     add-at
     entries-less
     entries-again
-    add-i
+    add-index
     pages-less
     pages-again
     returns
