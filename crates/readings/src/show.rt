@@ -3,7 +3,6 @@
 use crate::image;
 use libc::STDOUT_FILENO;
 use rules::Area;
-use rules::Reading;
 use rules::Yielded;
 
 // Writes a text.
