@@ -1,1 +1,2 @@
+-- The proofs of the module `object`: what its two walks share.
 pub mod Held

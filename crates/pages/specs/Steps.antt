@@ -118,7 +118,7 @@ module _ (p : List ℕ) (at n : ℕ) (e : n ≡ lengthAt p at) (z : n ≡ 0 → 
       let d : suc at + (n - 1) ≡ at + n = omega arith in
       rw (drop-cons p at 0 inside, h .0) (ap (λ (r : Walked). taken w (drop (suc at) p) r) (walk-behind (lengthOf w - 1) (drop (suc at) p) ∙ rw (b, drop-drop (n - 1) (suc at) p, d)))
 
-  pub data-words : length (take (n - 1) (drop (suc at) p)) + 1 ≡ n
+  data-words : length (take (n - 1) (drop (suc at) p)) + 1 ≡ n
   data-words = omega (arith, length-take (n - 1) (drop (suc at) p), length-drop (suc at) p, length-inside p at)
 
   pub entries-on : entriesAt p at ≡ entryAt p at n ∷ entriesAt p (at + n)
