@@ -156,6 +156,9 @@ pub spent-one : (p : Power) → (p .left ≡ 0 → ⊥) → record { left = p .l
 unfolding spent
 spent-one p h = power≡ refl (rw (le-ltb (p .left) 1 (omega arith)) (sym (or-false (p .cut))))
 
+pub ran-append : {x y : List Store} {p q r : Power} {f g h : List ℕ} → Ran x p f q g → Ran y q g r h → Ran (x ++ y) p f r h
+ran-append {x} {y} u v = ran-then (λ l. x) (λ l. y) u v
+
 -- A loop over the steps t 0, .., t (n - 1), begun with the power p₀ on the flash f₀, stands before step i with the power p and the
 -- flash f: whatever the steps that are left lead to, the whole loop leads to.
 pub record Turn (t : ℕ → Step) (n : ℕ) (p₀ : Power) (f₀ : List ℕ) (i : ℕ) (p : Power) (f : List ℕ) : Type 0 where
@@ -219,6 +222,10 @@ length-apply (wipe at n) f = length-sets f at (replicate n blank)
 pub length-made : (ss : List Store) (f : List ℕ) → length (made ss f) ≡ length f
 length-made [] f = refl
 length-made (s ∷ ss) f = length-made ss (apply s f) ∙ length-apply s f
+
+pub ran-length : {ss : List Store} {p q : Power} {f g : List ℕ} → Ran ss p f q g → length g ≡ length f
+unfolding madeFirst
+ran-length {ss} {p} {f = f} x = ap length (x .words) ∙ length-made (take (p .left) ss) f
 
 -- ---- stores outside the flash, and an erase word by word
 pub stored-out : (f : List ℕ) (at w : ℕ) → length f ≤ at → stored f at w ≡ f

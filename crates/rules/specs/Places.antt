@@ -11,6 +11,9 @@ use lib.ListN.{length, getD, drop, length-take, length-drop}
 use lib.Seq.{getD-take, getD-drop}
 use lib.Dec.{leb, eqb}
 use borrow.Author.Tests.{leb-true, eqb-true, not-false}
+use Rattle.flash.specs.declared.Power.{Power}
+use Rattle.flash.specs.Stores.{Store, Ran}
+use Rattle.flash.specs.Laws.{ran-length}
 use Rattle.rules.specs.declared.Area.{Area}
 use Rattle.rules.specs.declared.PageSize.{PageSize}
 use Rattle.rules.specs.declared.PageSize.the-variants.{Small, Medium, Large}
@@ -102,6 +105,10 @@ module _ (a : Area) (f : List ℕ) (e : wrongGeometry a f ≡ false) where
 
 pub right-at : {a : Area} {f : List ℕ} (g : List ℕ) → Right a f → length g ≡ length f → Right a g
 right-at g r l = record { some-pages = r .some-pages; many = r .many; wide = r .wide; narrow = r .narrow; listed = r .listed; long = l ∙ r .long }
+
+-- stores leave it right
+pub right-ran : {a : Area} {ss : List Store} {p q : Power} {f g : List ℕ} → Ran ss p f q g → Right a f → Right a g
+right-ran {g = g} x r = right-at g r (ran-length x)
 
 pub base-in : {a : Area} {f : List ℕ} → Right a f → (i : ℕ) → i ≤ suc (a .pages) → base a i ≤ length f
 base-in {a} r i h = rw (r .long) (base-le a i (suc (a .pages)) h)
