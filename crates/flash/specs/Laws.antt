@@ -179,12 +179,12 @@ module _ (t : ℕ → Step) (n i : ℕ) {p₀ p : Power} {f₀ f : List ℕ} whe
   done zero s l e = e p f (ran-none p f)
   done (suc k) s l e = absurd (let z : ⊥ = omega arith in z)
 
-pub turn-on : {t : ℕ → Step} {n i : ℕ} {p₀ p q : Power} {f₀ f g : List ℕ} → i < n → Ran (t i f) p f q g
-    → Turn t n p₀ f₀ i p f → Turn t n p₀ f₀ (i + 1) q g
-turn-on {t} {n} {i} l x u = rw (add-one i) (on t n i (u .rest) (u .sum) l x (u .end))
+pub turn-on : {t : ℕ → Step} {n i : ℕ} {p₀ p q : Power} {f₀ f g : List ℕ} → Turn t n p₀ f₀ i p f → i < n → Ran (t i f) p f q g
+    → Turn t n p₀ f₀ (i + 1) q g
+turn-on {t} {n} {i} u l x = rw (add-one i) (on t n i (u .rest) (u .sum) l x (u .end))
 
-pub turn-end : {t : ℕ → Step} {n i : ℕ} {p₀ p : Power} {f₀ f : List ℕ} → n ≤ i → Turn t n p₀ f₀ i p f → Ran (each t n 0 f₀) p₀ f₀ p f
-turn-end {t} {n} {i} l u = done t n i (u .rest) (u .sum) l (u .end)
+pub turn-end : {t : ℕ → Step} {n i : ℕ} {p₀ p : Power} {f₀ f : List ℕ} → Turn t n p₀ f₀ i p f → n ≤ i → Ran (each t n 0 f₀) p₀ f₀ p f
+turn-end {t} {n} {i} u l = done t n i (u .rest) (u .sum) l (u .end)
 
 -- what the proof of a function over stores hands to search
 pub ruleset stores = (ran-none, ran-cons, ran-dry, ran-one, turn-start, turn-on, turn-end)
