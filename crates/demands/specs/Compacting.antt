@@ -16,17 +16,17 @@ use Rattle.rules.specs.declared.Area.{Area}
 use Rattle.rules.specs.declared.Recovery.the-variants.{Free, Unfinished, Committed}
 use Rattle.rules.specs.Words.{openWords, lastSeal, meta0, meta1, isLive, seal}
 use Rattle.rules.specs.Walk.{Item, codes, items, stop, isSound}
-use Rattle.rules.specs.Areas.{R, base, page, kind, recovery, placed, pageEntries, entries, liveWords}
+use Rattle.rules.specs.Areas.{R, base, page, kind, recovery, placed, pageEntries, entries, liveWords, ready}
 use Rattle.rules.specs.Lists.{erase, keepLive, liveCodes, copyTo, restore, compact, finish}
 use Rattle.rules.specs.Laws.{live-append}
 use Rattle.rules.specs.Places.{page-in, length-page}
 use Rattle.demands.specs.Terms.{Fair, Map, recovered, blanks, Goods, no-item, good-item}
 use Rattle.demands.specs.Stages.{after, after-then, fair-append}
 use Rattle.demands.specs.Pages.{image, goods-items, length-image, at-seal, items-image, kind-image, stop-image, words-image}
-use Rattle.demands.specs.Runs.{shape-of, copied, part, meta-low, same-or-not, words-left, words-right, words-append, words-page, Only, only-self, only-as, only-trans, only-same, turns-wipe}
+use Rattle.demands.specs.Runs.{Usable, shape-of, copied, part, meta-low, same-or-not, words-left, words-right, words-append, words-page, Only, only-self, only-as, only-trans, only-same, turns-wipe}
 use Rattle.demands.specs.Entries.{look, look-kept, twice-kept, live-kept, live-same}
 use Rattle.demands.specs.Layout.{before, behind, entries-split, entries-only}
-use Rattle.demands.specs.Settled.{open-r, closed-r, given-made, free-blank, Settled, Stands, stands-by, stands-settled, stands-look, mended-only, settled-page}
+use Rattle.demands.specs.Settled.{open-r, closed-r, given-made, free-blank, Settled, Stands, ready-stands, stands-by, stands-settled, stands-look, mended-only, settled-page}
 use Rattle.demands.specs.Finishing.{Undamaged, undamaged-by, restored, finish-resumes, finish-fair, recovered-by}
 use Rattle.demands.specs.Room.{copy-length}
 
@@ -126,16 +126,16 @@ module _ {a : Area} {m : Map} {n : ℕ} {f : List ℕ} (s : Stands a m n f) (i :
     sound = undamaged-by a full (rw full-committed) (λ l b. rw (full-committed, pages-sound full goal (filled-r .1) l b) (or-true (eqb l i)));
   }
 
+  -- R holds the words that were copied
+  full-words : (k : ℕ) → length words ≡ k → take k (drop 2 (page a full (R a))) ≡ words
+  full-words k e = ap (λ (x : List ℕ). take k (drop 2 x)) (filled-r .1 .here ∙ sym goal-is) ∙ take-at words (blanks room) k e
+
   -- step (a) goes on as the compaction does
   full-finish : finish a full ≡ restore a i words
-  unfolding image
   full-finish =
       let st = ap stop (filled-r .1 .here) ∙ stop-image at-seal (a .pages) i room kept kept-good in
       let c = length-append (codes kept) (seal ∷ []) in
-      let t : take (stop (page a full (R a)) - 1) (drop 2 (page a full (R a))) ≡ words =
-      ap (λ (x : List ℕ). take (stop (page a full (R a)) - 1) (drop 2 x)) (filled-r .1 .here ∙ sym goal-is)
-      ∙ take-at words (blanks room) (stop (page a full (R a)) - 1) (omega arith) in
-      rw (full-committed, t)
+      rw (full-committed, full-words (stop (page a full (R a)) - 1) (omega arith))
 
   compact-is : compact a i f ≡ (toR then finish a) f
   unfolding liveCodes
@@ -253,3 +253,13 @@ module _ {a : Area} {m : Map} {n : ℕ} {f : List ℕ} (s : Stands a m n f) (i :
           first-then k toR (finish a) f ∙ ap (λ (u : List ℕ). madeFirst (k - length (toR f)) (finish a u) u) (first-all k (toR f) f l) in
           let r = finish-resumes a in
           rw e (r .keeps full full-undamaged j, inr (recovered-by (madeFirst j (finish a full) full) packed (r .again full full-undamaged j ∙ sym packed-is) packed-stands))
+
+-- the words that a compaction copies to R fit there, and R holds them afterwards
+pub held-in-r : {a : Area} {f : List ℕ} → Usable a f → ready a f ≡ true → (i : ℕ) → i < a .pages
+    → (length (liveCodes a f i) + 3 ≤ a .words)
+    × (take (length (liveCodes a f i) + 1) (drop 2 (page a (made (copyTo a (R a) i (liveCodes a f i ++ seal ∷ [])) f) (R a))) ≡ liveCodes a f i ++ seal ∷ [])
+unfolding liveCodes
+held-in-r {a} {f} u r i h =
+    let s = ready-stands u r in
+    let k = kept-fits s i h in
+    (omega arith, full-words s i h (length (codes (kept s i h)) + 1) (length-append (codes (kept s i h)) (seal ∷ [])))

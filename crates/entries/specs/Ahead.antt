@@ -8,7 +8,7 @@ use native.Mathlib.Omega.{arith}
 use lib.ListN.{length, getD, take, drop, length-take, length-drop}
 use lib.Bits.{bitAnd}
 use lib.Dec.{ltb, eqb}
-use lib.Seq.{length-take-le, take-add, drop-at, drop-drop, getD-take}
+use lib.Seq.{length-take-le, getD-take}
 use borrow.Author.Tests.{eq-eqb, ne-eqb}
 use Rattle.rules.specs.declared.Area.{Area}
 use Rattle.rules.specs.Words.{handleOf, isLive}
@@ -16,7 +16,7 @@ use Rattle.rules.specs.Walk.{walkIn, items}
 use Rattle.rules.specs.Areas.{base, page, Entry, placed, pageEntries, entriesFrom, entries, anyOf, firstOf, liveOf, twice, find}
 use Rattle.rules.specs.Refusals.{isNone}
 use Rattle.rules.specs.Search.{wanted, isAt, badPlace}
-use Rattle.rules.specs.Places.{Right, base-suc, base-zero, base-in}
+use Rattle.rules.specs.Places.{Right, base-suc, base-zero, page-from, base-in}
 use Rattle.pages.specs.Steps.{lengthAt, walkAt, entriesAt, entryAt, length-inside, entries-on, entries-end}
 use Rattle.entries.specs.declared.Cursor.{Cursor}
 use Rattle.entries.specs.declared.Found.{Found}
@@ -60,14 +60,9 @@ pub record Sound (a : Area) (f : List ℕ) (c : Cursor) : Type 0 where
   pub last : c .length ≡ 0 → c .left ≡ 0
 
 -- ---- laws of pages
-drop-take : (n m : ℕ) (l : List ℕ) → n ≤ length l → drop n (take (n + m) l) ≡ take m (drop n l)
-drop-take n m l h = ap (λ (u : List ℕ). drop n u) (take-add n m l) ∙ drop-at (take n l) (take m (drop n l)) n (length-take-le n l h)
-
-page-onward : (a : Area) (f : List ℕ) (i : ℕ) → base a i ≤ length f → pageEntries a f i ≡ entriesAt (take (base a i + a .words) f) (base a i + 2)
-unfolding page items entriesAt walkAt
-page-onward a f i h =
-    ap (λ (u : List ℕ). placed (base a i + 2) (walkIn 0 u .items))
-    (ap (λ (u : List ℕ). drop 2 u) (sym (drop-take (base a i) (a .words) f h)) ∙ drop-drop 2 (base a i) (take (base a i + a .words) f))
+pub page-onward : (a : Area) (f : List ℕ) (i : ℕ) → base a i ≤ length f → pageEntries a f i ≡ entriesAt (take (base a i + a .words) f) (base a i + 2)
+unfolding items entriesAt walkAt
+page-onward a f i h = ap (λ (u : List ℕ). placed (base a i + 2) (walkIn 0 u .items)) (page-from a f i h)
 
 -- where a page has no entry left, the next one's follow
 module _ {a : Area} {f : List ℕ} (r : Right a f) where

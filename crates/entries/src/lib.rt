@@ -33,7 +33,7 @@ struct Cursor {
 }
 
 // The run up to a place.
-fn up_to(flash: &[u32], end: usize) -> &[u32]
+pub fn up_to(flash: &[u32], end: usize) -> &[u32]
     requires { ⌜ end ≤ length (now flash) ⌝ }
     ensures { λ r. ⌜ now r ≡ take end (now (flash .entry)) ⌝ }
 {

@@ -81,7 +81,7 @@ walk-behind (suc k) (w ∷ ws) = walk-behind k ws
 
 -- where there is no entry the walk stops
 module _ (p : List ℕ) (at : ℕ) where
-  stops : lengthAt p at ≡ 0 → walkAt p at ≡ record { items = []; rest = drop at p }
+  pub stops : lengthAt p at ≡ 0 → walkAt p at ≡ record { items = []; rest = drop at p }
   unfolding lengthAt walkAt
   stops z = go (drop at p) z
     where
@@ -98,7 +98,7 @@ module _ (p : List ℕ) (at n : ℕ) (e : n ≡ lengthAt p at) (z : n ≡ 0 → 
   inside : at < length p
   inside = omega (arith, length-inside p at)
 
-  at-header : (begins (getD p at 0) (drop (suc at) p) ≡ true) × (lengthOf (getD p at 0) ≡ n)
+  pub at-header : (begins (getD p at 0) (drop (suc at) p) ≡ true) × (lengthOf (getD p at 0) ≡ n)
   unfolding lengthAt
   at-header = go (begins (getD p at 0) (drop (suc at) p)) refl
     where
@@ -109,7 +109,7 @@ module _ (p : List ℕ) (at n : ℕ) (e : n ≡ lengthAt p at) (z : n ≡ 0 → 
       go true q = (q, sym (rw q at here) ∙ sym e)
       go false q = absurd (z (e ∙ rw q at here))
 
-  goes-on : walkAt p at ≡ taken (getD p at 0) (drop (suc at) p) (walkAt p (at + n))
+  pub goes-on : walkAt p at ≡ taken (getD p at 0) (drop (suc at) p) (walkAt p (at + n))
   unfolding walkAt
   goes-on =
       let h = at-header in
@@ -118,7 +118,7 @@ module _ (p : List ℕ) (at n : ℕ) (e : n ≡ lengthAt p at) (z : n ≡ 0 → 
       let d : suc at + (n - 1) ≡ at + n = omega arith in
       rw (drop-cons p at 0 inside, h .0) (ap (λ (r : Walked). taken w (drop (suc at) p) r) (walk-behind (lengthOf w - 1) (drop (suc at) p) ∙ rw (b, drop-drop (n - 1) (suc at) p, d)))
 
-  data-words : length (take (n - 1) (drop (suc at) p)) + 1 ≡ n
+  pub data-words : length (take (n - 1) (drop (suc at) p)) + 1 ≡ n
   data-words = omega (arith, length-take (n - 1) (drop (suc at) p), length-drop (suc at) p, length-inside p at)
 
   pub entries-on : entriesAt p at ≡ entryAt p at n ∷ entriesAt p (at + n)

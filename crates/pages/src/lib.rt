@@ -137,7 +137,7 @@ pub fn recovery_of(page: &[u32], pages: u32) -> Recovery
 }
 
 // What an entry counts as live words: its length, if it is live.
-fn counted(handle: u32, words: usize) -> usize
+pub fn counted(handle: u32, words: usize) -> usize
     ensures { λ r. ⌜ (r ≡ counted handle words) × (r ≤ words) ⌝ }
 {
     if handle == 0 { 0 } else { words }

@@ -7,10 +7,10 @@ use Prim.Native.Nat.{ℕ, suc, _+_, _*_, _≤_, _<_, suc-le-suc}
 use native.Mathlib.Omega.{arith}
 use native.Mathlib.Nat.{suc-mul, zero-mul, mul-le-mul-right}
 use native.Mathlib.Numerals.{add-one}
-use lib.ListN.{length, getD, drop, length-take, length-drop}
-use lib.Seq.{getD-take, getD-drop}
+use lib.ListN.{length, getD, take, drop, length-take, length-drop}
+use lib.Seq.{getD-take, getD-drop, length-take-le, take-add, drop-at, drop-drop}
 use lib.Dec.{leb, eqb}
-use borrow.Author.Tests.{leb-true, eqb-true, not-false}
+use borrow.Author.Tests.{leb-true, eqb-true, le-leb, eq-eqb, not-false}
 use Rattle.flash.specs.declared.Power.{Power}
 use Rattle.flash.specs.Stores.{Store, Ran}
 use Rattle.flash.specs.Laws.{ran-length}
@@ -43,6 +43,14 @@ length-page a g i h = let s = base-suc a i in simp (length-take, length-drop) (o
 pub page-word : (a : Area) (f : List ℕ) (i at : ℕ) → at < a .words → getD f (base a i + at) 0 ≡ getD (page a f i) at 0
 unfolding page
 page-word a f i at h = sym (getD-take (a .words) (drop (base a i) f) at 0 h ∙ getD-drop (base a i) f at 0)
+
+-- the words of a page from word 2 on, where they stand in the run
+drop-take : (n m : ℕ) (l : List ℕ) → n ≤ length l → drop n (take (n + m) l) ≡ take m (drop n l)
+drop-take n m l h = ap (λ (u : List ℕ). drop n u) (take-add n m l) ∙ drop-at (take n l) (take m (drop n l)) n (length-take-le n l h)
+
+pub page-from : (a : Area) (f : List ℕ) (i : ℕ) → base a i ≤ length f → drop 2 (page a f i) ≡ drop (base a i + 2) (take (base a i + a .words) f)
+unfolding page
+page-from a f i h = ap (λ (u : List ℕ). drop 2 u) (sym (drop-take (base a i) (a .words) f h)) ∙ drop-drop 2 (base a i) (take (base a i + a .words) f)
 
 -- ---- a right geometry
 pub record Right (a : Area) (f : List ℕ) : Type 0 where
@@ -102,6 +110,13 @@ module _ (a : Area) (f : List ℕ) (e : wrongGeometry a f ≡ false) where
     listed = not-false known (nor-left (not known) (not whole) others);
     long = right-long ∙ ap (λ (u : ℕ). u * a .words) (add-one (a .pages));
   }
+
+-- and is no wrong one
+pub right-passes : {a : Area} {f : List ℕ} → Right a f → wrongGeometry a f ≡ false
+unfolding wrongGeometry base
+right-passes {a} {f} r =
+    let l : length f ≡ (a .pages + 1) * a .words = r .long ∙ ap (λ (u : ℕ). u * a .words) (sym (add-one (a .pages))) in
+    rw (le-leb 1 (a .pages) (r .some-pages), le-leb (a .pages) 255 (r .many), r .listed, eq-eqb (length f) ((a .pages + 1) * a .words) l)
 
 pub right-at : {a : Area} {f : List ℕ} (g : List ℕ) → Right a f → length g ≡ length f → Right a g
 right-at g r l = record { some-pages = r .some-pages; many = r .many; wide = r .wide; narrow = r .narrow; listed = r .listed; long = l ∙ r .long }
