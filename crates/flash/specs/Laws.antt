@@ -13,6 +13,8 @@ use lib.Seq.{take-all, take-nil, sets, length-sets, set-out}
 use lib.Bits.{bitAnd, and-le-l}
 use lib.Dec.{ltb}
 use borrow.Author.Tests.{lt-ltb, le-ltb}
+use mir.Syntax.{w32}
+use mir.Val.{Fits}
 use Rattle.flash.specs.declared.Power.{Power}
 use Rattle.flash.specs.Stores.{blank, Words, none, more, Store, put, wipe, stored, wiped, apply, made, madeFirst, Step, _then_, each, spent, Ran}
 
@@ -189,7 +191,11 @@ turn-end {t} {n} {i} u l = done t n i (u .rest) (u .sum) l (u .end)
 -- what the proof of a function over stores hands to search
 pub ruleset stores = (ran-none, ran-cons, ran-dry, ran-one, turn-start, turn-on, turn-end)
 
--- ---- stores keep 32-bit words
+-- ---- words that each fit 32 bits are 32-bit words, and stores keep them so
+pub words-fit : (f : List ℕ) → ((i : ℕ) → Fits w32 (getD f i 0)) → Words f
+words-fit [] h = none
+words-fit (w ∷ f) h = let k : w ≤ blank = omega (arith, h 0) in more k (words-fit f (λ i. h (suc i)))
+
 words-get : {f : List ℕ} → Words f → (at : ℕ) → getD f at 0 ≤ blank
 words-get none at = zero-le
 words-get (more h u) zero = h

@@ -45,7 +45,7 @@ unfolding page
 page-word a f i at h = sym (getD-take (a .words) (drop (base a i) f) at 0 h ∙ getD-drop (base a i) f at 0)
 
 -- the words of a page from word 2 on, where they stand in the run
-drop-take : (n m : ℕ) (l : List ℕ) → n ≤ length l → drop n (take (n + m) l) ≡ take m (drop n l)
+pub drop-take : (n m : ℕ) (l : List ℕ) → n ≤ length l → drop n (take (n + m) l) ≡ take m (drop n l)
 drop-take n m l h = ap (λ (u : List ℕ). drop n u) (take-add n m l) ∙ drop-at (take n l) (take m (drop n l)) n (length-take-le n l h)
 
 pub page-from : (a : Area) (f : List ℕ) (i : ℕ) → base a i ≤ length f → drop 2 (page a f i) ≡ drop (base a i + 2) (take (base a i + a .words) f)
