@@ -1,25 +1,26 @@
--- What mending a page finds and stores, and laws: the last entry if it is live, and what a loop over the entries has come to. Assumes nothing.
+-- The mending of a torn page: what it finds of the last entry, what a loop over the entries has come to, and the stores, from what a function
+-- has found and stored. Definitions and laws. Assumes nothing.
 use mathlib.Core.Path.{_≡_, refl, sym, ap, _∙_}
 use mathlib.Core.List.{List, [], _∷_, _++_}
 use mathlib.Core.Bool.{Bool, true, false, cond}
 use mathlib.Core.Option.{Option, some, none}
-use Prim.Native.Nat.{ℕ, suc, zero, _+_, _-_, _≤_, _<_}
+use Prim.Native.Nat.{ℕ, suc, _+_, _-_, _≤_, _<_}
 use native.Mathlib.Omega.{arith}
-use lib.ListN.{length, getD, take, drop, length-drop}
+use lib.ListN.{length, getD, take, drop, length-take, length-drop}
 use lib.Seq.{length-take-le}
 use lib.Dec.{eqb}
 use borrow.Author.Tests.{eq-eqb, ne-eqb}
 use Rattle.flash.specs.declared.Power.{Power}
 use Rattle.flash.specs.Stores.{Store, put, Ran}
-use Rattle.flash.specs.Laws.{ran-none, ran-append}
+use Rattle.flash.specs.Laws.{ran-none, ran-append, ran-length, turn-start, turn-on, turn-end}
 use Rattle.rules.specs.declared.Area.{Area}
 use Rattle.rules.specs.declared.Kind.{Kind}
 use Rattle.rules.specs.declared.Kind.the-variants.{Sealed, Torn, Neither}
 use Rattle.rules.specs.Words.{handleOf, isLive, seal}
 use Rattle.rules.specs.Walk.{stop}
 use Rattle.rules.specs.Areas.{base, page, kind, Entry, pageEntries}
-use Rattle.rules.specs.Lists.{lastOf, bareIfLive, mendAs, mend}
-use Rattle.rules.specs.Places.{Right, base-in}
+use Rattle.rules.specs.Lists.{bareIf, lastOf, bareIfLive, mendAs, mend}
+use Rattle.rules.specs.Places.{Right, right-ran, base-suc, base-in, page-in}
 use Rattle.pages.specs.Steps.{lengthAt, entriesAt, entryAt, length-inside, entries-on, entries-end}
 use Rattle.entries.specs.declared.Found.{Found}
 use Rattle.entries.specs.Ahead.{foundOf, page-onward}
@@ -90,36 +91,55 @@ abbrev pub bareFound : Found → List Store
 bareFound (Found.At place words) = put place (words + 1) ∷ []
 bareFound Found.None = []
 
-module _ {r : Found} {p q : Power} {f g : List ℕ} where
-  pub bare-at : {place words : ℕ} → r ≡ Found.At place words → Ran (put place (words + 1) ∷ []) p f q g → Ran (bareFound r) p f q g
-  bare-at e x = rw e x
+module _ {r : Found} {place words : ℕ} (e : r ≡ Found.At place words) where
+  pub bare-at : {p q : Power} {f g : List ℕ} → Ran (put place (words + 1) ∷ []) p f q g → Ran (bareFound r) p f q g
+  bare-at x = rw e x
+
+  pub bare-words : {n : ℕ} → dataWords r ≤ n → words ≤ n
+  bare-words h = rw e at h
 
 pub bare-none : {r : Found} {p : Power} {f : List ℕ} → r ≡ Found.None → Ran (bareFound r) p f p f
 bare-none {p = p} {f} e = rw e (ran-none p f)
 
-bare-live : (o : Option Entry) → bareFound (foundOf (ifLive o)) ≡ bareIfLive o
-bare-live none = refl
-bare-live (some e) = go (isLive (e .handle)) refl
+pub ruleset bares = (bare-at, bare-words, bare-none)
+
+-- they are those of the entry
+found-bare : (o : Option Entry) → bareFound (foundOf o) ≡ bareIf o
+found-bare none = refl
+found-bare (some e) = refl
+
+live-bare : (o : Option Entry) → bareIf (ifLive o) ≡ bareIfLive o
+live-bare none = refl
+live-bare (some e) = go (isLive (e .handle)) refl
   where
-    go : (b : Bool) → isLive (e .handle) ≡ b → bareFound (foundOf (ifLive (some e))) ≡ bareIfLive (some e)
+    go : (b : Bool) → isLive (e .handle) ≡ b → bareIf (ifLive (some e)) ≡ bareIfLive (some e)
     go true q = rw q
     go false q = rw q
 
--- ---- the stores of a page
+-- ---- the stores of a torn page, which begins at the place b
+module _ {a : Area} {f : List ℕ} {b : ℕ} (w : Right a f) where
+  pub end-inside : {i : ℕ} → b ≡ base a i → i < a .pages → b + a .words ≤ length f
+  end-inside {i} e l = omega (arith, page-in w i (omega arith), base-suc a i)
+
+  pub words-counted : {part : List ℕ} {n : ℕ} → part ≡ take (b + a .words) f → n ≤ length part → b ≤ 261120 → n ≤ 262144
+  words-counted d h l = let m = w .narrow in omega (arith, ap length d, length-take (b + a .words) f)
+
+  pub torn-mended : {g h part own : List ℕ} {i n : ℕ} {found : Found} {p q r : Power} → b ≡ base a i → i < a .pages → part ≡ take (b + a .words) f
+      → found ≡ foundOf (ifLive (lastOf (entriesAt part (b + 2)))) → own ≡ page a f i → n ≡ stop own
+      → Ran (bareFound found) p f q g → Ran (put (b + n) seal ∷ []) q g r h → Ran (mendAs Torn a i f) p f r h
+  torn-mended {i = i} c l d e o s x y =
+      let u : pageEntries a f i ≡ entriesAt (take (base a i + a .words) f) (base a i + 2) = page-onward a f i (base-in w i (omega arith)) in
+      rw (← live-bare (lastOf (pageEntries a f i)), ← found-bare (ifLive (lastOf (pageEntries a f i))), u, ← c, ← d, ← e, ← o, ← s) (ran-append x y)
+
+-- ---- of any page, by its kind
 module _ {k : Kind} (a : Area) (f : List ℕ) (i : ℕ) (e : k ≡ kind a f i) where
   pub mend-sealed : {p : Power} → k ≡ Sealed → Ran (mend a i f) p f p f
   mend-sealed {p} t = rw (← e, t) (ran-none p f)
 
-  pub mend-neither : {p : Power} → k ≡ Neither → Ran (mend a i f) p f p f
-  mend-neither {p} t = rw (← e, t) (ran-none p f)
-
   pub mend-torn : {p q : Power} {g : List ℕ} → k ≡ Torn → Ran (mendAs Torn a i f) p f q g → Ran (mend a i f) p f q g
   mend-torn t x = rw (← e, t) x
 
--- of a torn one
-pub mend-both : {a : Area} {f g h part own : List ℕ} {i b n : ℕ} {found : Found} {p q r : Power} → b ≡ base a i → part ≡ take (b + a .words) f
-    → found ≡ foundOf (ifLive (lastOf (entriesAt part (b + 2)))) → own ≡ page a f i → n ≡ stop own → Right a f → i < a .pages
-    → Ran (bareFound found) p f q g → Ran (put (b + n) seal ∷ []) q g r h → Ran (mendAs Torn a i f) p f r h
-mend-both {a} {f} {i = i} c d e o s w l x y =
-    let u : pageEntries a f i ≡ entriesAt (take (base a i + a .words) f) (base a i + 2) = page-onward a f i (base-in w i (omega arith)) in
-    rw (← bare-live (lastOf (pageEntries a f i)), u, ← c, ← d, ← e, ← o, ← s) (ran-append x y)
+  pub mend-neither : {p : Power} → k ≡ Neither → Ran (mend a i f) p f p f
+  mend-neither {p} t = rw (← e, t) (ran-none p f)
+
+pub ruleset mends = (turn-start, turn-on, turn-end, right-ran, ran-length, end-inside, words-counted, torn-mended, mend-sealed, mend-torn, mend-neither)
