@@ -2,7 +2,8 @@
 // are live twice, the next match of a filter, and the places of headers. Promises are the
 // definitions of `rules`.
 //
-// Every function here is proved. Each public one asks for a right geometry.
+// Every function here is proved. Each public one asks for a right geometry, but `up_to`, which asks
+// for a place inside the run.
 ghost use mathlib.Core.Bool.{_&&_};
 ghost use mathlib.Core.Path.{_≡_};
 ghost use Prim.Native.Nat.{_≤_, _<_};
