@@ -5,12 +5,13 @@
 // Every function here is proved. Each public one asks for a right geometry.
 ghost use mathlib.Core.Bool.{_&&_};
 ghost use mathlib.Core.Path.{_≡_};
-ghost use Prim.Native.Nat.{_≤_, _<_};
+ghost use Prim.Native.Nat.{suc, _+_, _≤_, _<_};
 ghost use lib.Bits.{bitAnd};
 ghost use lib.Dec.{eqb};
-ghost use lib.ListN.{length, take};
+ghost use lib.ListN.{length, take, drop};
 ghost use Rattle.rules.specs.Words.{isLive};
 ghost use Rattle.rules.specs.Areas.{entries, anyOf, liveOf, twice, find};
+ghost use Rattle.rules.specs.Refusals.{sameWords, holds};
 ghost use Rattle.rules.specs.Search.{next, badPlace};
 ghost use Rattle.rules.specs.Places.{Right};
 ghost use Rattle.entries.specs.Ahead.{foundOf, onward, ahead, behind, Ends, Sound, Settled};
@@ -119,6 +120,44 @@ pub fn find(flash: &[u32], area: Area, handle: u32) -> Found
     ensures { λ r. ⌜ r ≡ foundOf (find handle (entries area (now (flash .entry)))) ⌝ }
 {
     find_from(flash, area, first(flash, area), handle)
+}
+
+// The data of an entry: so many words of the run behind a place.
+fn data_at(flash: &[u32], place: usize, words: usize) -> &[u32]
+    requires { ⌜ place + words < length (now flash) ⌝ }
+    ensures { λ r. ⌜ now r ≡ take words (drop (suc place) (now (flash .entry))) ⌝ }
+{
+    let start = place + 1;
+    let end = start + words;
+    &flash[start..end]
+}
+
+// Whether two lists of words are the same.
+fn same_words(xs: &[u32], ys: &[u32]) -> bool
+    ensures { λ r. ⌜ r ≡ sameWords (now (xs .entry)) (now (ys .entry)) ⌝ }
+{
+    if xs.len() != ys.len() {
+        return false;
+    }
+    let mut i: usize = 0;
+    while i < xs.len() {
+        if xs[i] != ys[i] {
+            return false;
+        }
+        i += 1;
+    }
+    true
+}
+
+// Whether a handle's live entry has these very data; false if it has none.
+pub fn holds(flash: &[u32], area: Area, handle: u32, data: &[u32]) -> bool
+    requires { ⌜ Right area (now flash) ⌝ }
+    ensures { λ r. ⌜ r ≡ holds area (now (flash .entry)) handle (now («data» .entry)) ⌝ }
+{
+    match find(flash, area, handle) {
+        Found::At { place, words } => same_words(data_at(flash, place, words), data),
+        Found::None => false,
+    }
 }
 
 // Whether a handle is live from a cursor on.
