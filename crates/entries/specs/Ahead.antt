@@ -109,7 +109,7 @@ module _ {a : Area} {f : List ℕ} (r : Right a f) where
 
 -- ---- where entries lie
 -- the words behind a place, of a run that is cut
-drop-cut : (n m : ℕ) (l : List ℕ) → drop n (take m l) ≡ take (m - n) (drop n l)
+pub drop-cut : (n m : ℕ) (l : List ℕ) → drop n (take m l) ≡ take (m - n) (drop n l)
 drop-cut zero m l = let e : m - 0 ≡ m = omega arith in rw e
 drop-cut (suc n) m [] = rw (take-nil {A = ℕ} m, take-nil {A = ℕ} (m - suc n))
 drop-cut (suc n) zero (w ∷ l) = let e : 0 - suc n ≡ 0 = omega arith in rw e
@@ -220,7 +220,7 @@ module _ {a : Area} {f g : List ℕ} {es : List Entry} {place end left n : ℕ} 
 
 -- ---- the entry at a cursor, and those behind it
 module _ {a : Area} {f : List ℕ} {c : Cursor} (s : Sound a f c) where
-  ahead-end : c .length ≡ 0 → ahead a f c ≡ []
+  pub ahead-end : c .length ≡ 0 → ahead a f c ≡ []
   unfolding onward
   ahead-end z = let l = s .last z in rw (l, entries-end (take (c .end) f) (c .place) (s .entry) z)
 
@@ -229,12 +229,12 @@ module _ {a : Area} {f : List ℕ} {c : Cursor} (s : Sound a f c) where
     unfolding entryAt entryOf
     entry-at = let i = s .fits in rw (getD-take (c .end) f (c .place) 0 (omega arith))
 
-    ahead-on : ahead a f c ≡ entryOf f c ∷ onward a f (c .place + c .length) (c .end) (c .left)
+    pub ahead-on : ahead a f c ≡ entryOf f c ∷ onward a f (c .place + c .length) (c .end) (c .left)
     unfolding onward
     ahead-on = rw (entries-on (take (c .end) f) (c .place) (c .length) (s .entry) z, entry-at)
 
     -- its data words
-    entry-words : length (entryOf f c .words) ≡ c .length - 1
+    pub entry-words : length (entryOf f c .words) ≡ c .length - 1
     unfolding entryOf
     entry-words =
         let i = s .ends .inside in
