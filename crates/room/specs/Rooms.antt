@@ -1,7 +1,8 @@
--- What a search over pages answers, and laws: the live words of an area and the page that an entry goes to, from what a loop over pages has
--- found. Assumes nothing.
-use mathlib.Core.Path.{_≡_, ap, _∙_}
+-- What a search over pages answers, and laws: what that says, and the live words of an area and the page that an entry goes to, from what
+-- a loop over pages has found. Assumes nothing.
+use mathlib.Core.Path.{_≡_, refl, ap, _∙_}
 use mathlib.Core.List.{List}
+use mathlib.Core.Bool.{Bool, true, false, cond}
 use mathlib.Core.Option.{Option, some, none}
 use Prim.Native.Nat.{ℕ, suc, zero, _+_, _≤_, _<_}
 use native.Mathlib.Omega.{arith}
@@ -16,7 +17,7 @@ use Rattle.rules.specs.declared.PageSize.{PageSize}
 use Rattle.rules.specs.Words.{wordsOf, openWords, lastSeal}
 use Rattle.rules.specs.Walk.{items}
 use Rattle.rules.specs.Areas.{base, page, placed, pageEntries, entriesFrom, entries, liveWords}
-use Rattle.rules.specs.Lists.{leavesRoom, roomPage, makesRoom, compactPage}
+use Rattle.rules.specs.Lists.{lowest, leavesRoom, roomPage, makesRoom, compactPage}
 use Rattle.rules.specs.Laws.{live-append, live-anywhere}
 use Rattle.rules.specs.Places.{Right, base-suc, page-in}
 use Rattle.pages.specs.Steps.{lengthAt, Walking, walking-start, walking-on, walking-end}
@@ -29,6 +30,37 @@ use Rattle.area.specs.Checks.{end-fits}
 abbrev pub foundPage : Option ℕ → FoundPage
 foundPage none = None
 foundPage (some i) = At i
+
+-- ---- what that answer says
+pub found-some : {r : FoundPage} {i : ℕ} (o : Option ℕ) → r ≡ foundPage o → r ≡ At i → o ≡ some i
+found-some none e q = absurd (let z : _≡_ {A = ℕ} 0 1 = cc in omega arith)
+found-some (some j) e q = cc
+
+pub found-none : {r : FoundPage} (o : Option ℕ) → r ≡ foundPage o → r ≡ None → o ≡ none
+found-none none e q = refl
+found-none (some j) e q = absurd (let z : _≡_ {A = ℕ} 0 1 = cc in omega arith)
+
+lowest-below : (t : ℕ → Bool) (n j i : ℕ) → lowest t n j ≡ some i → i < j + n
+lowest-below t zero j i e = absurd (let z : _≡_ {A = ℕ} 0 1 = cc in omega arith)
+lowest-below t (suc n) j i e = go (t j) e (lowest-below t n (suc j) i)
+  where
+    go : (b : Bool) → cond b (some j) (lowest t n (suc j)) ≡ some i → (lowest t n (suc j) ≡ some i → i < suc j + n) → i < j + suc n
+    go true q ih = let z : j ≡ i = cc in omega arith
+    go false q ih = let h = ih q in omega arith
+
+found-below : {r : FoundPage} (t : ℕ → Bool) (n i : ℕ) → r ≡ foundPage (lowest t n 0) → r ≡ At i → i < n
+found-below t n i e q = let h = lowest-below t n 0 i (found-some (lowest t n 0) e q) in omega arith
+
+module _ {r : FoundPage} {i : ℕ} (a : Area) (f : List ℕ) (l : ℕ) where
+  pub compact-below : r ≡ foundPage (compactPage a f l) → r ≡ At i → i < a .pages
+  unfolding compactPage
+  compact-below e q = found-below (makesRoom a f l) (a .pages) i e q
+
+  pub room-below : r ≡ foundPage (roomPage a f l) → r ≡ At i → i < a .pages
+  unfolding roomPage
+  room-below e q = found-below (leavesRoom a f l) (a .pages) i e q
+
+pub ruleset answers = (found-some, found-none, compact-below, room-below)
 
 -- ---- the live words of a page, wherever it stands
 page-live : (a : Area) (f : List ℕ) (i : ℕ) {p : List ℕ} {m : ℕ} → p ≡ page a f i → m ≡ liveWords (placed 2 (items p)) → m ≡ liveWords (pageEntries a f i)
