@@ -1,4 +1,5 @@
--- The area's entries from a cursor on, and what a loop over them has come to: definitions and laws. Assumes nothing.
+-- The area's entries from a cursor on, where entries lie in the run, and what a loop over them has come to: definitions and laws.
+-- Assumes nothing.
 use mathlib.Core.Path.{_≡_, refl, sym, ap, subst, _∙_}
 use mathlib.Core.List.{List, [], _∷_, _++_}
 use mathlib.Core.Bool.{Bool, true, false, cond, not, _&&_, _||_}
@@ -15,7 +16,7 @@ use Rattle.flash.specs.Laws.{le-or-lt}
 use Rattle.rules.specs.declared.Area.{Area}
 use Rattle.rules.specs.Words.{handleOf, isLive}
 use Rattle.rules.specs.Walk.{walkIn, items}
-use Rattle.rules.specs.Areas.{base, page, Entry, placed, pageEntries, entriesFrom, entries, anyOf, firstOf, liveOf, twice, find}
+use Rattle.rules.specs.Areas.{base, Entry, placed, pageEntries, entriesFrom, entries, anyOf, firstOf, liveOf, twice, find}
 use Rattle.rules.specs.Refusals.{isNone}
 use Rattle.rules.specs.Search.{wanted, isAt, badPlace}
 use Rattle.rules.specs.Places.{Right, base-suc, base-zero, page-from, base-in}

@@ -2,8 +2,8 @@
 // handles that are live twice and the stores that mend it, the next match of a filter, and the
 // places of headers. Promises are the definitions of `rules`.
 //
-// Every function here is proved. Each public one asks for a right geometry. `drop_doubles` alone
-// stores; the others change no word.
+// Every function here is proved. Each public one asks for a right geometry, but `up_to`, which asks
+// for a place inside the run. `drop_doubles` alone stores; the others change no word.
 ghost use mathlib.Core.Bool.{_&&_};
 ghost use mathlib.Core.Path.{_≡_};
 ghost use Prim.Native.Nat.{suc, min, _+_, _≤_, _<_};
