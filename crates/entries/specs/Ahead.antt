@@ -1,19 +1,22 @@
--- The area's entries from a cursor on, and what a loop over them has come to: definitions and laws. Assumes nothing.
+-- The area's entries from a cursor on, where entries lie in the run, and what a loop over them has come to: definitions and laws.
+-- Assumes nothing.
 use mathlib.Core.Path.{_≡_, refl, sym, ap, subst, _∙_}
 use mathlib.Core.List.{List, [], _∷_, _++_}
 use mathlib.Core.Bool.{Bool, true, false, cond, not, _&&_, _||_}
 use mathlib.Core.Option.{Option, some, none}
+use mathlib.Core.Logic.{⊎-elim}
 use Prim.Native.Nat.{ℕ, suc, zero, _+_, _-_, _≤_, _<_}
 use native.Mathlib.Omega.{arith}
 use lib.ListN.{length, getD, take, drop, length-take, length-drop}
 use lib.Bits.{bitAnd}
 use lib.Dec.{ltb, eqb}
-use lib.Seq.{length-take-le, getD-take}
+use lib.Seq.{length-take-le, take-nil, take-take, getD-take}
 use borrow.Author.Tests.{eq-eqb, ne-eqb}
+use Rattle.flash.specs.Laws.{le-or-lt}
 use Rattle.rules.specs.declared.Area.{Area}
 use Rattle.rules.specs.Words.{handleOf, isLive}
 use Rattle.rules.specs.Walk.{walkIn, items}
-use Rattle.rules.specs.Areas.{base, page, Entry, placed, pageEntries, entriesFrom, entries, anyOf, firstOf, liveOf, twice, find}
+use Rattle.rules.specs.Areas.{base, Entry, placed, pageEntries, entriesFrom, entries, anyOf, firstOf, liveOf, twice, find}
 use Rattle.rules.specs.Refusals.{isNone}
 use Rattle.rules.specs.Search.{wanted, isAt, badPlace}
 use Rattle.rules.specs.Places.{Right, base-suc, base-zero, page-from, base-in}
@@ -105,6 +108,83 @@ module _ {a : Area} {f : List ℕ} (r : Right a f) where
       let i : a .pages - (a .pages - 1) ≡ 1 = omega arith in
       rw i (first-from (a .pages - 1) ∙ ap (λ (u : ℕ). entriesFrom a f u 0) n)
 
+-- ---- where entries lie
+-- the words behind a place, of a run that is cut
+pub drop-cut : (n m : ℕ) (l : List ℕ) → drop n (take m l) ≡ take (m - n) (drop n l)
+drop-cut zero m l = let e : m - 0 ≡ m = omega arith in rw e
+drop-cut (suc n) m [] = rw (take-nil {A = ℕ} m, take-nil {A = ℕ} (m - suc n))
+drop-cut (suc n) zero (w ∷ l) = let e : 0 - suc n ≡ 0 = omega arith in rw e
+drop-cut (suc n) (suc m) (w ∷ l) = let e : suc m - suc n ≡ m - n = omega arith in rw e (drop-cut n m l)
+
+-- an entry lies inside a run: its data are the words behind its header's place
+pub record Inside (f : List ℕ) (e : Entry) : Type 0 where
+  pub within : e .place + length (e .words) < length f
+  pub words : e .words ≡ take (length (e .words)) (drop (suc (e .place)) f)
+
+-- all of a list do
+abbrev AllInside : List ℕ → List Entry → Type 0
+AllInside f [] = Unit {0}
+AllInside f (e ∷ es) = Inside f e × AllInside f es
+
+inside-append : (f : List ℕ) (x y : List Entry) → AllInside f x → AllInside f y → AllInside f (x ++ y)
+inside-append f [] y i j = j
+inside-append f (e ∷ x) y i j = (i .0, inside-append f x y (i .1) j)
+
+inside-first : {f : List ℕ} {e : Entry} (t : Entry → Bool) (es : List Entry) → AllInside f es → firstOf t es ≡ some e → Inside f e
+inside-first t [] i q = absurd (let z : _≡_ {A = ℕ} 0 1 = cc in let y : ⊥ = omega arith in y)
+inside-first {f} {e} t (d ∷ es) i q = go (t d) q (inside-first t es (i .1))
+  where
+    go : (b : Bool) → cond b (some d) (firstOf t es) ≡ some e → (firstOf t es ≡ some e → Inside f e) → Inside f e
+    go true q ih = let z : d ≡ e = cc in rw z at (i .0)
+    go false q ih = ih q
+
+-- those of a page
+module _ (f : List ℕ) (end : ℕ) (b : end ≤ length f) where
+  inside-entry : (at n : ℕ) → n ≤ end - at - 1 → (n ≡ 0 → ⊥) → Inside f (entryAt (take end f) at n)
+  unfolding entryAt
+  inside-entry at n h z =
+      let k : length (take (n - 1) (drop (suc at) (take end f))) ≡ n - 1 = omega (arith, length-take (n - 1) (drop (suc at) (take end f)), length-drop (suc at) (take end f), length-take-le end f b) in
+      record { within = omega arith; words = rw (k, drop-cut (suc at) end f) (take-take (n - 1) (end - suc at) (drop (suc at) f) (omega arith)) }
+
+  inside-at : (n at : ℕ) → end - at ≤ n → AllInside f (entriesAt (take end f) at)
+  inside-at zero at h =
+      let p = take end f in
+      let z : lengthAt p at ≡ 0 = omega (arith, length-inside p at, length-take-le end f b) in
+      rw (entries-end p at refl z) tt
+  inside-at (suc n) at h =
+      let p = take end f in
+      let l = lengthAt p at in
+      let i : l ≤ end - at - 1 = omega (arith, length-inside p at, length-take-le end f b) in
+      ⊎-elim
+      (λ (q : 1 ≤ l). let z : l ≡ 0 → ⊥ = λ y. omega arith in rw (entries-on p at l refl z) (inside-entry at l i z, inside-at n (at + l) (omega arith)))
+      (λ (q : l < 1). let z : l ≡ 0 = omega arith in rw (entries-end p at refl z) tt)
+      (le-or-lt 1 l)
+
+-- those of the area
+module _ {a : Area} {f : List ℕ} (r : Right a f) where
+  inside-onward : (left place end : ℕ) → Ends a f end left → AllInside f (onward a f place end left)
+  unfolding onward
+  inside-onward zero place end e = inside-append f (entriesAt (take end f) place) [] (inside-at f end (e .inside) end place (omega arith)) tt
+  inside-onward (suc l) place end e =
+      let z : suc l ≡ 0 → ⊥ = λ y. omega arith in
+      let k : suc l - 1 ≡ l = omega arith in
+      let n : Ends a f (end + a .words) l = rw k at (ends-next r e z) in
+      let s : entriesFrom a f (suc l) (a .pages - suc l) ≡ onward a f (end + 2) (end + a .words) l = onward-next r end (suc l) e z ∙ rw k in
+      inside-append f (entriesAt (take end f) place) (entriesFrom a f (suc l) (a .pages - suc l)) (inside-at f end (e .inside) end place (omega arith)) (rw s (inside-onward l (end + 2) (end + a .words) n))
+
+  all-inside : AllInside f (entries a f)
+  all-inside = rw (first-onward r) at (inside-onward (a .pages - 1) 2 (a .words) (first-ends r))
+
+-- what is found lies inside the run
+pub first-inside : {a : Area} {f : List ℕ} {e : Entry} (t : Entry → Bool) → firstOf t (entries a f) ≡ some e → Right a f → Inside f e
+first-inside {a} {f} t q r = inside-first t (entries a f) (all-inside r) q
+
+pub found-inside : {a : Area} {f : List ℕ} {r : Found} {p n : ℕ} (t : Entry → Bool) → r ≡ foundOf (firstOf t (entries a f)) → r ≡ Found.At p n → Right a f → p + n < length f
+found-inside {a} {f} t e q r =
+    let s = found-some (firstOf t (entries a f)) e q in
+    let i = first-inside t (s .1) r .within in
+    omega (arith, s .2, s .3)
+
 -- ---- a cursor is moved on until it stands at an entry or behind the last one
 pub record Settling (a : Area) (f : List ℕ) (es : List Entry) (place end left : ℕ) : Type 0 where
   pub ends : Ends a f end left
@@ -141,7 +221,7 @@ module _ {a : Area} {f g : List ℕ} {es : List Entry} {place end left n : ℕ} 
 
 -- ---- the entry at a cursor, and those behind it
 module _ {a : Area} {f : List ℕ} {c : Cursor} (s : Sound a f c) where
-  ahead-end : c .length ≡ 0 → ahead a f c ≡ []
+  pub ahead-end : c .length ≡ 0 → ahead a f c ≡ []
   unfolding onward
   ahead-end z = let l = s .last z in rw (l, entries-end (take (c .end) f) (c .place) (s .entry) z)
 
@@ -150,12 +230,12 @@ module _ {a : Area} {f : List ℕ} {c : Cursor} (s : Sound a f c) where
     unfolding entryAt entryOf
     entry-at = let i = s .fits in rw (getD-take (c .end) f (c .place) 0 (omega arith))
 
-    ahead-on : ahead a f c ≡ entryOf f c ∷ onward a f (c .place + c .length) (c .end) (c .left)
+    pub ahead-on : ahead a f c ≡ entryOf f c ∷ onward a f (c .place + c .length) (c .end) (c .left)
     unfolding onward
     ahead-on = rw (entries-on (take (c .end) f) (c .place) (c .length) (s .entry) z, entry-at)
 
     -- its data words
-    entry-words : length (entryOf f c .words) ≡ c .length - 1
+    pub entry-words : length (entryOf f c .words) ≡ c .length - 1
     unfolding entryOf
     entry-words =
         let i = s .ends .inside in

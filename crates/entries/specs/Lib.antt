@@ -1,1 +1,3 @@
 pub mod Ahead
+pub mod Holding
+pub mod Doubles

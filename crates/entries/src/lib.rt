@@ -1,20 +1,29 @@
-// The area's entries, one behind the other through its pages: the entry of a handle, handles that
-// are live twice, the next match of a filter, and the places of headers. Promises are the
-// definitions of `rules`.
+// The area's entries, one behind the other through its pages: the entry of a handle and its data,
+// handles that are live twice and the stores that mend it, the next match of a filter, and the
+// places of headers. Promises are the definitions of `rules`.
 //
 // Every function here is proved. Each public one asks for a right geometry, but `up_to`, which asks
+<<<<<<< HEAD
 // for a place inside the run.
+=======
+// for a place inside the run. `drop_doubles` alone stores; the others change no word.
+>>>>>>> h-entries
 ghost use mathlib.Core.Bool.{_&&_};
 ghost use mathlib.Core.Path.{_≡_};
-ghost use Prim.Native.Nat.{_≤_, _<_};
+ghost use Prim.Native.Nat.{suc, min, _+_, _≤_, _<_};
 ghost use lib.Bits.{bitAnd};
 ghost use lib.Dec.{eqb};
-ghost use lib.ListN.{length, take};
+ghost use lib.ListN.{length, take, drop};
+ghost use Rattle.flash.specs.Stores.{Ran};
 ghost use Rattle.rules.specs.Words.{isLive};
 ghost use Rattle.rules.specs.Areas.{entries, anyOf, liveOf, twice, find};
+ghost use Rattle.rules.specs.Refusals.{sameWords, holds};
+ghost use Rattle.rules.specs.Lists.{dropDoubles};
 ghost use Rattle.rules.specs.Search.{next, badPlace};
 ghost use Rattle.rules.specs.Places.{Right};
 ghost use Rattle.entries.specs.Ahead.{foundOf, onward, ahead, behind, Ends, Sound, Settled};
+ghost use Rattle.entries.specs.Doubles.{putIf};
+use flash::Power;
 use rules::Area;
 
 // What is found of an entry: the place of its header in the run, and the number of its data words.
@@ -41,11 +50,11 @@ pub fn up_to(flash: &[u32], end: usize) -> &[u32]
     &flash[..end]
 }
 
-// The cursor at the first entry from a place on, or behind the last entry. With the place go the end
-// of its page and the number of pages left behind that.
+// The cursor at the first entry from a place of a page on, or behind the last entry; never before
+// the place. With the place go the end of its page and the number of pages left behind that.
 fn settle(flash: &[u32], area: Area, place: usize, end: usize, left: usize) -> Cursor
     requires { ⌜ Right area (now flash) × Ends area (now flash) end left ⌝ }
-    ensures { λ r. ⌜ Settled area (now (flash .entry)) (onward area (now (flash .entry)) place end left) r ⌝ }
+    ensures { λ r. ⌜ Settled area (now (flash .entry)) (onward area (now (flash .entry)) place end left) r × (min place end ≤ r .place) ⌝ }
 {
     let mut place = place;
     let mut end = end;
@@ -78,10 +87,10 @@ fn first(flash: &[u32], area: Area) -> Cursor
     settle(flash, area, 2, area.words, area.pages - 1)
 }
 
-// The cursor at the entry behind that of a cursor.
+// The cursor at the entry behind that of a cursor, or behind the last entry; further on in the run.
 fn after(flash: &[u32], area: Area, cursor: Cursor) -> Cursor
     requires { ⌜ Right area (now flash) × Sound area (now flash) cursor × (cursor .length ≡ 0 → ⊥) ⌝ }
-    ensures { λ r. ⌜ Settled area (now (flash .entry)) (behind area (now (flash .entry)) cursor) r ⌝ }
+    ensures { λ r. ⌜ Settled area (now (flash .entry)) (behind area (now (flash .entry)) cursor) r × (cursor .place < r .place) ⌝ }
 {
     settle(
         flash,
@@ -122,6 +131,44 @@ pub fn find(flash: &[u32], area: Area, handle: u32) -> Found
     find_from(flash, area, first(flash, area), handle)
 }
 
+// The data of an entry: so many words of the run behind a place.
+fn data_at(flash: &[u32], place: usize, words: usize) -> &[u32]
+    requires { ⌜ place + words < length (now flash) ⌝ }
+    ensures { λ r. ⌜ now r ≡ take words (drop (suc place) (now (flash .entry))) ⌝ }
+{
+    let start = place + 1;
+    let end = start + words;
+    &flash[start..end]
+}
+
+// Whether two lists of words are the same.
+fn same_words(xs: &[u32], ys: &[u32]) -> bool
+    ensures { λ r. ⌜ r ≡ sameWords (now (xs .entry)) (now (ys .entry)) ⌝ }
+{
+    if xs.len() != ys.len() {
+        return false;
+    }
+    let mut i: usize = 0;
+    while i < xs.len() {
+        if xs[i] != ys[i] {
+            return false;
+        }
+        i += 1;
+    }
+    true
+}
+
+// Whether a handle's live entry has these very data; false if it has none.
+pub fn holds(flash: &[u32], area: Area, handle: u32, data: &[u32]) -> bool
+    requires { ⌜ Right area (now flash) ⌝ }
+    ensures { λ r. ⌜ r ≡ holds area (now (flash .entry)) handle (now («data» .entry)) ⌝ }
+{
+    match find(flash, area, handle) {
+        Found::At { place, words } => same_words(data_at(flash, place, words), data),
+        Found::None => false,
+    }
+}
+
 // Whether a handle is live from a cursor on.
 fn is_live_from(flash: &[u32], area: Area, start: Cursor, handle: u32) -> bool
     requires { ⌜ Right area (now flash) × Sound area (now flash) start ⌝ }
@@ -149,6 +196,35 @@ pub fn live_twice(flash: &[u32], area: Area) -> bool
         cursor = next;
     }
     false
+}
+
+// Stores a word at a place, if it is to be stored.
+fn store_if(flash: &mut [u32], wanted: bool, at: usize, word: u32, power: Power) -> Power
+    ensures { λ r. ⌜ Ran (putIf wanted at word) power (now (flash .entry)) r (now (flash .exit)) ⌝ }
+{
+    if wanted {
+        return flash::store(flash, at, word, power);
+    }
+    power
+}
+
+// Stores to its bare length the header of each entry whose handle is live behind it, in area order,
+// so that of the live entries of a handle the last one stays.
+pub fn drop_doubles(flash: &mut [u32], area: Area, power: Power) -> Power
+    requires { ⌜ Right area (now flash) ⌝ }
+    ensures { λ r. ⌜ Ran (dropDoubles area (now (flash .entry))) power (now (flash .entry)) r (now (flash .exit)) ⌝ }
+{
+    let mut p = power;
+    let mut cursor = first(flash, area);
+    while cursor.length != 0 {
+        let place = cursor.place;
+        let handle = pages::handle_of(flash[place]);
+        let next = after(flash, area, cursor);
+        let doubled = is_live_from(flash, area, next, handle);
+        p = store_if(flash, doubled, place, cursor.length as u32, p);
+        cursor = next;
+    }
+    p
 }
 
 // Whether a handle is a live one that the filter lets through.

@@ -1,23 +1,27 @@
--- What a search over pages answers, and laws: the live words of an area and the page that an entry goes to, from what a loop over pages has
--- found. Assumes nothing.
-use mathlib.Core.Path.{_≡_, ap, _∙_}
+-- What a search over pages answers, and laws: what that says, the live words of an area, its quota, the size of its pages and the page that
+-- an entry goes to, from what a function has found of each. Assumes nothing.
+use mathlib.Core.Path.{_≡_, refl, sym, ap, _∙_}
 use mathlib.Core.List.{List}
+use mathlib.Core.Bool.{Bool, true, false, cond, false≢true}
 use mathlib.Core.Option.{Option, some, none}
-use Prim.Native.Nat.{ℕ, suc, zero, _+_, _≤_, _<_}
+use Prim.Native.Nat.{ℕ, suc, zero, _+_, _*_, _≤_, _<_}
 use native.Mathlib.Omega.{arith}
+use native.Mathlib.Nat.{mul-le-mul-right}
 use native.Mathlib.Numerals.{add-one}
 use lib.ListN.{length}
-use lib.Dec.{leb}
+use lib.Dec.{leb, ltb}
 use borrow.Author.Tests.{le-leb, lt-leb}
 use mir.Syntax.{w64}
 use mir.Val.{Fits}
 use Rattle.rules.specs.declared.Area.{Area}
 use Rattle.rules.specs.declared.PageSize.{PageSize}
-use Rattle.rules.specs.Words.{wordsOf, openWords, lastSeal}
+use Rattle.rules.specs.declared.FoundSize.{FoundSize}
+use Rattle.rules.specs.Words.{wordsOf, sizeOf, openWords, quota, lastSeal}
 use Rattle.rules.specs.Walk.{items}
 use Rattle.rules.specs.Areas.{base, page, placed, pageEntries, entriesFrom, entries, liveWords}
-use Rattle.rules.specs.Lists.{leavesRoom, roomPage, makesRoom, compactPage}
-use Rattle.rules.specs.Laws.{live-append, live-anywhere}
+use Rattle.rules.specs.Refusals.{isListed, areaQuota}
+use Rattle.rules.specs.Lists.{lowest, leavesRoom, roomPage, makesRoom, compactPage}
+use Rattle.rules.specs.Laws.{words-size, size-words, live-append, live-anywhere}
 use Rattle.rules.specs.Places.{Right, base-suc, page-in}
 use Rattle.pages.specs.Steps.{lengthAt, Walking, walking-start, walking-on, walking-end}
 use Rattle.room.specs.declared.FoundPage.{FoundPage}
@@ -29,6 +33,37 @@ use Rattle.area.specs.Checks.{end-fits}
 abbrev pub foundPage : Option ℕ → FoundPage
 foundPage none = None
 foundPage (some i) = At i
+
+-- ---- what that answer says
+pub found-some : {r : FoundPage} {i : ℕ} (o : Option ℕ) → r ≡ foundPage o → r ≡ At i → o ≡ some i
+found-some none e q = absurd (let z : _≡_ {A = ℕ} 0 1 = cc in omega arith)
+found-some (some j) e q = cc
+
+pub found-none : {r : FoundPage} (o : Option ℕ) → r ≡ foundPage o → r ≡ None → o ≡ none
+found-none none e q = refl
+found-none (some j) e q = absurd (let z : _≡_ {A = ℕ} 0 1 = cc in omega arith)
+
+lowest-below : (t : ℕ → Bool) (n j i : ℕ) → lowest t n j ≡ some i → i < j + n
+lowest-below t zero j i e = absurd (let z : _≡_ {A = ℕ} 0 1 = cc in omega arith)
+lowest-below t (suc n) j i e = go (t j) e (lowest-below t n (suc j) i)
+  where
+    go : (b : Bool) → cond b (some j) (lowest t n (suc j)) ≡ some i → (lowest t n (suc j) ≡ some i → i < suc j + n) → i < j + suc n
+    go true q ih = let z : j ≡ i = cc in omega arith
+    go false q ih = let h = ih q in omega arith
+
+found-below : {r : FoundPage} (t : ℕ → Bool) (n i : ℕ) → r ≡ foundPage (lowest t n 0) → r ≡ At i → i < n
+found-below t n i e q = let h = lowest-below t n 0 i (found-some (lowest t n 0) e q) in omega arith
+
+module _ {r : FoundPage} {i : ℕ} (a : Area) (f : List ℕ) (l : ℕ) where
+  pub compact-below : r ≡ foundPage (compactPage a f l) → r ≡ At i → i < a .pages
+  unfolding compactPage
+  compact-below e q = found-below (makesRoom a f l) (a .pages) i e q
+
+  pub room-below : r ≡ foundPage (roomPage a f l) → r ≡ At i → i < a .pages
+  unfolding roomPage
+  room-below e q = found-below (leavesRoom a f l) (a .pages) i e q
+
+pub ruleset answers = (found-some, found-none, compact-below, room-below)
 
 -- ---- the live words of a page, wherever it stands
 page-live : (a : Area) (f : List ℕ) (i : ℕ) {p : List ℕ} {m : ℕ} → p ≡ page a f i → m ≡ liveWords (placed 2 (items p)) → m ≡ liveWords (pageEntries a f i)
@@ -81,6 +116,34 @@ sum-below {a} {i = i} s r =
     omega (arith, page-in r i (omega arith))
 
 pub ruleset sums = (summing-start, summing-on, sum-fits, summing-end, sum-below)
+
+-- ---- the area's quota
+module _ {m : ℕ} (a : Area) (z : PageSize) (w : wordsOf z ≡ a .words) (e : m ≡ quota (wordsOf z)) where
+  pub quota-fits : {f : List ℕ} → Right a f → Fits w64 (a .pages * m)
+  quota-fits r =
+      let n = r .narrow in
+      let k : a .pages * m ≤ 255 * m = mul-le-mul-right m (r .many) in
+      let l : m ≤ 1024 = omega arith in
+      record { fits = omega arith }
+
+  pub by-quota : {k : ℕ} (f : List ℕ) (n : ℕ) → k ≡ liveWords (entries a f) → ltb (a .pages * m) (k + n) ≡ ltb (areaQuota a) (liveWords (entries a f) + n)
+  by-quota f n q = rw (q, e, w)
+
+pub ruleset quotas = (quota-fits, by-quota)
+
+-- ---- the size of listed pages
+module _ {s : FoundSize} (P : ℕ) (e : s ≡ sizeOf P) where
+  pub size-found : {z : PageSize} → s ≡ FoundSize.Is z → wordsOf z ≡ P
+  size-found {z} q = size-words P z (sym e ∙ q)
+
+  pub never-none : {n : ℕ} → s ≡ FoundSize.None → isListed (sizeOf P) ≡ true → n ≡ P
+  never-none q l = absurd (false≢true (sym (ap isListed (sym e ∙ q)) ∙ l))
+
+pub ruleset sizes = (size-found, never-none)
+
+-- no two sizes have as many words
+pub size-settles : (r s : PageSize) {P : ℕ} → wordsOf r ≡ P → wordsOf s ≡ P → r ≡ s
+size-settles r s e d = let z : FoundSize.Is r ≡ FoundSize.Is s = sym (words-size r) ∙ ap sizeOf (e ∙ sym d) ∙ words-size s in cc
 
 -- ---- the page whose compaction makes room
 module _ (a : Area) (f : List ℕ) (l : ℕ) (z : PageSize) {p : List ℕ} {i m d : ℕ} (s : Seeking (makesRoom a f l) (a .pages) i) (h : i < a .pages)

@@ -1,11 +1,12 @@
 -- `settle` goes to the next page where one has no entry left. Assumes nothing.
+use Prim.Native.Nat.{min, _≤_}
 use borrow.Author.Needs.{needs}
 use Rattle.entries.specs.Ahead.{onward, Settling, cursors}
 use Rattle.entries.proofs.settle.Statement.{statement}
 use Rattle.entries.proofs.settle.Tie as tie
 
 abbrev Inv-loop : tie.InvT-loop
-Inv-loop flash area place end left place₀ end₀ left₀ place' end' left' = Settling area flash (onward area flash place end left) place' end' left'
+Inv-loop flash area place end left place₀ end₀ left₀ place' end' left' = Settling area flash (onward area flash place end left) place' end' left' × (min place end ≤ place') × (min place end ≤ end')
 
 abbrev μ-loop : tie.MeasureT-loop
 μ-loop flash area place end left place₀ end₀ left₀ place' end' left' = left'
