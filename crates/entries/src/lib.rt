@@ -3,11 +3,7 @@
 // places of headers. Promises are the definitions of `rules`.
 //
 // Every function here is proved. Each public one asks for a right geometry, but `up_to`, which asks
-<<<<<<< HEAD
-// for a place inside the run.
-=======
 // for a place inside the run. `drop_doubles` alone stores; the others change no word.
->>>>>>> h-entries
 ghost use mathlib.Core.Bool.{_&&_};
 ghost use mathlib.Core.Path.{_≡_};
 ghost use Prim.Native.Nat.{suc, min, _+_, _≤_, _<_};

@@ -42,7 +42,7 @@ blanking-end {p} {at} {i} b h = rw (drop-of-length-le p h) at (b .same)
 pub ruleset blanks = (blanking-start, blanking-on, blanking-stop, blanking-end)
 
 -- ---- where a walk stops the words from there on are left
-rest-suffix : (k : ℕ) (ws : List ℕ) → (length (walkIn k ws .rest) ≤ length ws) × (walkIn k ws .rest ≡ drop (length ws - length (walkIn k ws .rest)) ws)
+pub rest-suffix : (k : ℕ) (ws : List ℕ) → (length (walkIn k ws .rest) ≤ length ws) × (walkIn k ws .rest ≡ drop (length ws - length (walkIn k ws .rest)) ws)
 rest-suffix k [] = (omega arith, refl)
 rest-suffix (suc k) (w ∷ ws) =
     let r = rest-suffix k ws in

@@ -1,1 +1,2 @@
 pub mod Mending
+pub mod Finishing

@@ -24,16 +24,12 @@ use Rattle.rules.specs.Places.{Right, right-ran, base-suc, base-in, page-in}
 use Rattle.pages.specs.Steps.{lengthAt, entriesAt, entryAt, length-inside, entries-on, entries-end}
 use Rattle.entries.specs.declared.Found.{Found}
 use Rattle.entries.specs.Ahead.{foundOf, page-onward}
+use Rattle.stores.specs.Making.{bareFound, found-bare}
 
 -- an entry, if it is live
 abbrev pub ifLive : Option Entry → Option Entry
 ifLive none = none
 ifLive (some e) = cond (isLive (e .handle)) (some e) none
-
--- the number of the data words of what is found
-abbrev pub dataWords : Found → ℕ
-dataWords (Found.At place words) = words
-dataWords Found.None = 0
 
 -- ---- a search for the last entry has come to a place, and remembers the entry of n words at another; none, if n is 0
 abbrev pub seen : List ℕ → ℕ → ℕ → List Entry
@@ -86,28 +82,7 @@ module _ {p : List ℕ} {start place n at m : ℕ} (s : Passing p start place n 
 
 pub ruleset passes = (passing-start, passing-on, last-none, last-dead)
 
--- ---- the stores of what is found
-abbrev pub bareFound : Found → List Store
-bareFound (Found.At place words) = put place (words + 1) ∷ []
-bareFound Found.None = []
-
-module _ {r : Found} {place words : ℕ} (e : r ≡ Found.At place words) where
-  pub bare-at : {p q : Power} {f g : List ℕ} → Ran (put place (words + 1) ∷ []) p f q g → Ran (bareFound r) p f q g
-  bare-at x = rw e x
-
-  pub bare-words : {n : ℕ} → dataWords r ≤ n → words ≤ n
-  bare-words h = rw e at h
-
-pub bare-none : {r : Found} {p : Power} {f : List ℕ} → r ≡ Found.None → Ran (bareFound r) p f p f
-bare-none {p = p} {f} e = rw e (ran-none p f)
-
-pub ruleset bares = (bare-at, bare-words, bare-none)
-
--- they are those of the entry
-found-bare : (o : Option Entry) → bareFound (foundOf o) ≡ bareIf o
-found-bare none = refl
-found-bare (some e) = refl
-
+-- ---- the store of an entry that is live
 live-bare : (o : Option Entry) → bareIf (ifLive o) ≡ bareIfLive o
 live-bare none = refl
 live-bare (some e) = go (isLive (e .handle)) refl

@@ -1,5 +1,5 @@
-// Recovery of an area, step by step: the mending of its torn pages. Promises are the lists of
-// `rules`, run under power.
+// Recovery of an area, step by step, each reading the flash as the step before left it: R finished,
+// torn pages mended, doubles dropped. Promises are the lists of `rules`, run under power.
 //
 // Every function here is proved. Each public one asks for a right geometry.
 ghost use mathlib.Core.Path.{_≡_};
@@ -7,16 +7,41 @@ ghost use Prim.Native.Nat.{_≤_, _<_};
 ghost use lib.ListN.{length};
 ghost use Rattle.flash.specs.Stores.{each, Ran};
 ghost use Rattle.rules.specs.declared.Kind.the-variants.{Torn};
-ghost use Rattle.rules.specs.Lists.{lastOf, mendAs, mend};
+ghost use Rattle.rules.specs.declared.Recovery.the-variants.{Committed};
+ghost use Rattle.rules.specs.Lists.{finishAs, finish, lastOf, mendAs, mend, recoverList};
 ghost use Rattle.rules.specs.Places.{Right};
 ghost use Rattle.pages.specs.Steps.{entriesAt};
 ghost use Rattle.entries.specs.Ahead.{foundOf};
-ghost use Rattle.recovery.specs.Mending.{ifLive, dataWords, bareFound};
+ghost use Rattle.stores.specs.Making.{dataWords};
+ghost use Rattle.recovery.specs.Mending.{ifLive};
 use entries::Found;
 use flash::Power;
 use rules::Area;
 use rules::Kind;
+use rules::Recovery;
 use rules::SEAL;
+
+// The page that a committed R names made anew of R's words, up to and with the seal, and R freed.
+fn finish_page(flash: &mut [u32], area: Area, index: usize, power: Power) -> Power
+    requires { ⌜ Right area (now flash) × (index < area .pages) ⌝ }
+    ensures { λ r. ⌜ Ran (finishAs (Committed index) area (now (flash .entry))) power (now (flash .entry)) r (now (flash .exit)) ⌝ }
+{
+    let stop = pages::stop(area::page_part(flash, area, area.pages));
+    compaction::restore(flash, area, index, stop - 1, power)
+}
+
+// What R holds of a compaction finished, or R erased if it is unfinished itself.
+fn finish(flash: &mut [u32], area: Area, power: Power) -> Power
+    requires { ⌜ Right area (now flash) ⌝ }
+    ensures { λ r. ⌜ Ran (finish area (now (flash .entry))) power (now (flash .entry)) r (now (flash .exit)) ⌝ }
+{
+    match area::recovery_kind(flash, area) {
+        Recovery::Free => power,
+        Recovery::Unfinished => stores::erase_page(flash, area, area.pages, power),
+        Recovery::Committed(index) => finish_page(flash, area, index, power),
+        Recovery::Damage => power,
+    }
+}
 
 // The last of the entries from a place on, if that one is live.
 fn last_live(part: &[u32], start: usize) -> Found
@@ -46,17 +71,6 @@ fn last_live(part: &[u32], start: usize) -> Found
     }
 }
 
-// The header of the entry found to its bare length; nothing, if none was found.
-fn bare_found(flash: &mut [u32], found: Found, power: Power) -> Power
-    requires { ⌜ dataWords found ≤ 262144 ⌝ }
-    ensures { λ r. ⌜ Ran (bareFound found) power (now (flash .entry)) r (now (flash .exit)) ⌝ }
-{
-    match found {
-        Found::At { place, words } => stores::bare(flash, place, words, power),
-        Found::None => power,
-    }
-}
-
 // A torn page made a sealed one: its last entry bare, if that is live, and the seal behind its
 // entries.
 fn mend_torn(flash: &mut [u32], area: Area, index: usize, power: Power) -> Power
@@ -66,12 +80,12 @@ fn mend_torn(flash: &mut [u32], area: Area, index: usize, power: Power) -> Power
     let base = stores::base(area, index);
     let last = last_live(entries::up_to(flash, base + area.words), base + 2);
     let stop = pages::stop(area::page_part(flash, area, index));
-    let p = bare_found(flash, last, power);
+    let p = stores::bare_found(flash, last, power);
     flash::store(flash, base + stop, SEAL, p)
 }
 
 // A page mended, if it is torn.
-pub fn mend(flash: &mut [u32], area: Area, index: usize, power: Power) -> Power
+fn mend(flash: &mut [u32], area: Area, index: usize, power: Power) -> Power
     requires { ⌜ Right area (now flash) × (index < area .pages) ⌝ }
     ensures { λ r. ⌜ Ran (mend area index (now (flash .entry))) power (now (flash .entry)) r (now (flash .exit)) ⌝ }
 {
@@ -83,7 +97,7 @@ pub fn mend(flash: &mut [u32], area: Area, index: usize, power: Power) -> Power
 }
 
 // All pages mended that are torn.
-pub fn mend_pages(flash: &mut [u32], area: Area, power: Power) -> Power
+fn mend_pages(flash: &mut [u32], area: Area, power: Power) -> Power
     requires { ⌜ Right area (now flash) ⌝ }
     ensures { λ r. ⌜ Ran (each (mend area) (area .pages) 0 (now (flash .entry))) power (now (flash .entry)) r (now (flash .exit)) ⌝ }
 {
@@ -94,4 +108,14 @@ pub fn mend_pages(flash: &mut [u32], area: Area, power: Power) -> Power
         index += 1;
     }
     p
+}
+
+// The stores of a recovery.
+pub fn recover(flash: &mut [u32], area: Area, power: Power) -> Power
+    requires { ⌜ Right area (now flash) ⌝ }
+    ensures { λ r. ⌜ Ran (recoverList area (now (flash .entry))) power (now (flash .entry)) r (now (flash .exit)) ⌝ }
+{
+    let a = finish(flash, area, power);
+    let b = mend_pages(flash, area, a);
+    entries::drop_doubles(flash, area, b)
 }

@@ -3,6 +3,7 @@
 use mathlib.Core.Path.{_≡_, refl, ap, sym, _∙_}
 use mathlib.Core.List.{List, [], _∷_}
 use mathlib.Core.Logic.{_⊎_, inl, inr, ⊎-elim}
+use mathlib.Core.Option.{Option, some, none}
 use Prim.Native.Nat.{ℕ, suc, zero, _+_, _-_, _*_, _≤_, _<_}
 use native.Mathlib.Omega.{arith}
 use native.Mathlib.Nat.{mul-le-mul-right}
@@ -13,12 +14,14 @@ use mir.Syntax.{w64}
 use mir.Val.{Fits}
 use Rattle.flash.specs.declared.Power.{Power}
 use Rattle.flash.specs.Stores.{Store, put, wipe, stored, puts, Step, each, Ran}
-use Rattle.flash.specs.Laws.{ran-cons, ran-append, ran-then, ran-length, turn-start, turn-on, turn-end}
+use Rattle.flash.specs.Laws.{ran-none, ran-cons, ran-append, ran-then, ran-length, turn-start, turn-on, turn-end}
 use Rattle.rules.specs.declared.Area.{Area}
 use Rattle.rules.specs.Words.{meta0, meta1, seal}
-use Rattle.rules.specs.Areas.{R, base}
-use Rattle.rules.specs.Lists.{erase, eraseR, formatPage, formatList}
+use Rattle.rules.specs.Areas.{R, base, Entry}
+use Rattle.rules.specs.Lists.{erase, bareIf, eraseR, formatPage, formatList}
 use Rattle.rules.specs.Places.{Right, right-ran}
+use Rattle.entries.specs.declared.Found.{Found}
+use Rattle.entries.specs.Ahead.{foundOf}
 
 -- words 0 and 1 of page j as for page i
 abbrev pub metadata : Area → ℕ → ℕ → List Store
@@ -52,6 +55,33 @@ module _ {a : Area} {f : List ℕ} (r : Right a f) where
 
   pub index-below : {i : ℕ} → i < a .pages → i ≤ 255
   index-below h = let m = r .many in omega arith
+
+-- ---- the header of what is found to its bare length
+-- the number of the data words of what is found
+abbrev pub dataWords : Found → ℕ
+dataWords (Found.At place words) = words
+dataWords Found.None = 0
+
+abbrev pub bareFound : Found → List Store
+bareFound (Found.At place words) = put place (words + 1) ∷ []
+bareFound Found.None = []
+
+module _ {r : Found} {place words : ℕ} (e : r ≡ Found.At place words) where
+  pub bare-at : {p q : Power} {f g : List ℕ} → Ran (put place (words + 1) ∷ []) p f q g → Ran (bareFound r) p f q g
+  bare-at x = rw e x
+
+  pub bare-words : {n : ℕ} → dataWords r ≤ n → words ≤ n
+  bare-words h = rw e at h
+
+pub bare-none : {r : Found} {p : Power} {f : List ℕ} → r ≡ Found.None → Ran (bareFound r) p f p f
+bare-none {p = p} {f} e = rw e (ran-none p f)
+
+pub ruleset bares = (bare-at, bare-words, bare-none)
+
+-- its store is the entry's
+pub found-bare : (o : Option Entry) → bareFound (foundOf o) ≡ bareIf o
+found-bare none = refl
+found-bare (some e) = refl
 
 -- ---- words upward, one by one
 abbrev pub putTurn : ℕ → List ℕ → ℕ → Step

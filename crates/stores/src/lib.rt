@@ -14,7 +14,8 @@ ghost use Rattle.rules.specs.Words.{meta1};
 ghost use Rattle.rules.specs.Areas.{base};
 ghost use Rattle.rules.specs.Lists.{erase, formatPage, formatList};
 ghost use Rattle.rules.specs.Places.{Right};
-ghost use Rattle.stores.specs.Making.{metadata};
+ghost use Rattle.stores.specs.Making.{dataWords, bareFound, metadata};
+use entries::Found;
 use flash::Power;
 use rules::Area;
 use rules::META0;
@@ -42,6 +43,17 @@ pub fn bare(flash: &mut [u32], place: usize, words: usize, power: Power) -> Powe
     ensures { λ r. ⌜ Ran (put place (words + 1) ∷ []) power (now (flash .entry)) r (now (flash .exit)) ⌝ }
 {
     flash::store(flash, place, (words + 1) as u32, power)
+}
+
+// The header of the entry found to its bare length; nothing, if none was found.
+pub fn bare_found(flash: &mut [u32], found: Found, power: Power) -> Power
+    requires { ⌜ dataWords found ≤ 262144 ⌝ }
+    ensures { λ r. ⌜ Ran (bareFound found) power (now (flash .entry)) r (now (flash .exit)) ⌝ }
+{
+    match found {
+        Found::At { place, words } => bare(flash, place, words, power),
+        Found::None => power,
+    }
 }
 
 // Words upward from a place.

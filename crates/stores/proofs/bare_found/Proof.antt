@@ -1,8 +1,8 @@
 -- `bare_found` stores by what was found. Assumes nothing.
 use borrow.Author.Needs.{needs}
-use Rattle.recovery.specs.Mending.{bares}
-use Rattle.recovery.proofs.bare_found.Statement.{statement}
-use Rattle.recovery.proofs.bare_found.Tie as tie
+use Rattle.stores.specs.Making.{bares}
+use Rattle.stores.proofs.bare_found.Statement.{statement}
+use Rattle.stores.proofs.bare_found.Tie as tie
 
 enum-known-found : tie.Need-enum-known-found
 enum-known-found c = search needs
