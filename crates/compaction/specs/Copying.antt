@@ -21,7 +21,7 @@ use Rattle.rules.specs.Places.{Right, right-passes, right-ran, drop-take, page-
 use Rattle.demands.specs.Compacting.{held-in-r}
 use Rattle.demands.specs.Entries.{live-kept}
 use Rattle.pages.specs.Steps.{lengthAt, walkAt, counted, length-inside, at-header, goes-on, data-words, stops}
-use Rattle.stores.specs.Making.{metadata}
+use Rattle.stores.specs.Making.{metadata, puts-append}
 
 -- ---- the live words from a place on
 unfoldable pub liveAt : List ℕ → ℕ → List ℕ
@@ -64,10 +64,6 @@ unfolding liveAt
 live-end p at e z = ap (λ (w : Walked). codes (keepLive (w .items))) (stops p at (sym e ∙ z))
 
 -- ---- what stores leave as it was
-puts-append : (at : ℕ) (x y : List ℕ) → puts at (x ++ y) ≡ puts at x ++ puts (at + length x) y
-puts-append at [] y = let e : at + 0 ≡ at = omega arith in rw e
-puts-append at (w ∷ x) y = let e : suc at + length x ≡ at + suc (length x) = omega arith in ap (λ (ss : List Store). put at w ∷ ss) (puts-append (suc at) x y ∙ rw e)
-
 -- words upward from a place leave what is in front of it
 puts-front : (m k at : ℕ) (ws f : List ℕ) → m ≤ at → take m (made (take k (puts at ws)) f) ≡ take m f
 unfolding stored

@@ -11,7 +11,7 @@ use lib.Seq.{length-take-le}
 use lib.Dec.{eqb}
 use borrow.Author.Tests.{eq-eqb, ne-eqb}
 use Rattle.flash.specs.declared.Power.{Power}
-use Rattle.flash.specs.Stores.{Store, put, Ran}
+use Rattle.flash.specs.Stores.{put, Ran}
 use Rattle.flash.specs.Laws.{ran-none, ran-append, ran-length, turn-start, turn-on, turn-end}
 use Rattle.rules.specs.declared.Area.{Area}
 use Rattle.rules.specs.declared.Kind.{Kind}

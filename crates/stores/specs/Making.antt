@@ -1,7 +1,7 @@
 -- The stores that lists are made of, and laws: words upward one by one, a copy inside the flash that reads each word when its turn comes,
 -- a page's metadata, and a format. Assumes nothing.
 use mathlib.Core.Path.{_≡_, refl, ap, sym, _∙_}
-use mathlib.Core.List.{List, [], _∷_}
+use mathlib.Core.List.{List, [], _∷_, _++_}
 use mathlib.Core.Logic.{_⊎_, inl, inr, ⊎-elim}
 use mathlib.Core.Option.{Option, some, none}
 use Prim.Native.Nat.{ℕ, suc, zero, _+_, _-_, _*_, _≤_, _<_}
@@ -17,11 +17,11 @@ use Rattle.flash.specs.Stores.{Store, put, wipe, stored, puts, Step, each, Ran}
 use Rattle.flash.specs.Laws.{ran-none, ran-cons, ran-append, ran-then, ran-length, turn-start, turn-on, turn-end}
 use Rattle.rules.specs.declared.Area.{Area}
 use Rattle.rules.specs.Words.{meta0, meta1, seal}
-use Rattle.rules.specs.Areas.{R, base, Entry}
+use Rattle.rules.specs.Areas.{R, base, Entry, entries, liveOf, find}
 use Rattle.rules.specs.Lists.{erase, bareIf, eraseR, formatPage, formatList}
 use Rattle.rules.specs.Places.{Right, right-ran}
 use Rattle.entries.specs.declared.Found.{Found}
-use Rattle.entries.specs.Ahead.{foundOf}
+use Rattle.entries.specs.Ahead.{foundOf, found-inside}
 
 -- words 0 and 1 of page j as for page i
 abbrev pub metadata : Area → ℕ → ℕ → List Store
@@ -56,6 +56,15 @@ module _ {a : Area} {f : List ℕ} (r : Right a f) where
   pub index-below : {i : ℕ} → i < a .pages → i ≤ 255
   index-below h = let m = r .many in omega arith
 
+pub run-small : {a : Area} {f : List ℕ} → Right a f → length f ≤ 262144
+unfolding base
+run-small {a} {f} r =
+    let n = r .narrow in
+    let m = r .many in
+    let h : suc (a .pages) ≤ 256 = omega arith in
+    let k : suc (a .pages) * a .words ≤ 256 * a .words = mul-le-mul-right (a .words) h in
+    omega (arith, r .long)
+
 -- ---- the header of what is found to its bare length
 -- the number of the data words of what is found
 abbrev pub dataWords : Found → ℕ
@@ -78,12 +87,24 @@ bare-none {p = p} {f} e = rw e (ran-none p f)
 
 pub ruleset bares = (bare-at, bare-words, bare-none)
 
+-- no entry of the area has more words than can be counted
+pub found-counted : {a : Area} {f : List ℕ} {r : Found} (h : ℕ) → r ≡ foundOf (find h (entries a f)) → Right a f → dataWords r ≤ 262144
+found-counted {a} {f} {r} h e w = go r refl
+  where
+    go : (s : Found) → r ≡ s → dataWords s ≤ 262144
+    go (Found.At place words) q = omega (arith, found-inside (liveOf h) e q w, run-small w)
+    go Found.None q = omega arith
+
 -- its store is the entry's
 pub found-bare : (o : Option Entry) → bareFound (foundOf o) ≡ bareIf o
 found-bare none = refl
 found-bare (some e) = refl
 
--- ---- words upward, one by one
+-- ---- words upward, in two parts and one by one
+pub puts-append : (at : ℕ) (x y : List ℕ) → puts at (x ++ y) ≡ puts at x ++ puts (at + length x) y
+puts-append at [] y = let e : at + 0 ≡ at = omega arith in rw e
+puts-append at (w ∷ x) y = let e : suc at + length x ≡ at + suc (length x) = omega arith in ap (λ (ss : List Store). put at w ∷ ss) (puts-append (suc at) x y ∙ rw e)
+
 abbrev pub putTurn : ℕ → List ℕ → ℕ → Step
 putTurn at d i f = put (at + i) (getD d i 0) ∷ []
 
