@@ -124,7 +124,7 @@ checksOf cs = checked Checked.Refused cs Checked.Passed
 pub passed : {r : Checked} (cs : List (Bool × Refusal)) → r ≡ checksOf cs → r ≡ Checked.Passed → Passed cs
 passed cs e q = checked-passed Checked.Refused cs Checked.Passed Checked.Passed (λ n z. let y : _≡_ {A = ℕ} 0 1 = cc in omega arith) (sym e ∙ q) .0
 
-refused-on : {A : Type 0} {n : Refusal} (refused : Refusal → A) (cs ds : List (Bool × Refusal)) (x : A) → checksOf cs ≡ Checked.Refused n → refused n ≡ checked refused (cs ++ ds) x
+pub refused-on : {A : Type 0} {n : Refusal} (refused : Refusal → A) (cs ds : List (Bool × Refusal)) (x : A) → checksOf cs ≡ Checked.Refused n → refused n ≡ checked refused (cs ++ ds) x
 refused-on refused [] ds x e = absurd (let z : _≡_ {A = ℕ} 0 1 = cc in let y : ⊥ = omega arith in y)
 refused-on {n = n} refused (c ∷ cs) ds x e = go (c .0) refl e (refused-on refused cs ds x)
   where
@@ -171,10 +171,19 @@ module _ {r : Checked} {b : Bool} (a : Area) (f : List ℕ) (e : r ≡ checksOf 
 
 pub ruleset checks = (geometry-right, passed-right, checks-geometry, checks-damaged, checks-passed, still-refused, checks-ready, checks-unready)
 
--- a request goes on with its own checks
+-- a request goes on with more checks
+pub passed-on : {A : Type 0} {r : Checked} (refused : Refusal → A) (cs ds : List (Bool × Refusal)) (x : A) → r ≡ checksOf cs → r ≡ Checked.Passed
+    → checked refused (cs ++ ds) x ≡ checked refused ds x
+passed-on refused cs ds x e q = checked-append refused cs ds x ∙ passed-checked refused cs (checked refused ds x) (passed cs e q)
+
 module _ {A : Type 0} {r : Checked} (refused : Refusal → A) (a : Area) (f : List ℕ) (ds : List (Bool × Refusal)) (x : A) (e : r ≡ checksOf (readyChecks a f [])) where
   pub ready-refused : {n : Refusal} → r ≡ Checked.Refused n → refused n ≡ checked refused (readyChecks a f ds) x
   ready-refused q = refused-on refused (readyChecks a f []) ds x (sym e ∙ q)
 
   pub ready-on : r ≡ Checked.Passed → checked refused (readyChecks a f ds) x ≡ checked refused ds x
-  ready-on q = checked-append refused (readyChecks a f []) ds x ∙ passed-checked refused (readyChecks a f []) (checked refused ds x) (passed (readyChecks a f []) e q)
+  ready-on q = passed-on refused (readyChecks a f []) ds x e q
+
+-- whose area is ready
+pub ready-is : (a : Area) (f : List ℕ) (cs : List (Bool × Refusal)) → Passed (readyChecks a f cs) → ready a f ≡ true
+unfolding unready
+ready-is a f cs p = not-false (ready a f) (rw (p .1 .0) at (p .1 .1 .0))

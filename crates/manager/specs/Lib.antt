@@ -1,3 +1,4 @@
 pub mod Reading
+pub mod Storing
 pub mod Object
 pub mod ObjectLaws

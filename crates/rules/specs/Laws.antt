@@ -139,7 +139,7 @@ stores-made ss k f = ⊎-elim enough short (le-or-lt (length ss) k)
 
 -- the answer of a run that was given power for k stores, by the power that is left
 abbrev pub answerOf : ℕ → Power → Answer
-answerOf k q = cond (q .cut) (Answer.Cut k) (Answer.Done (k - q .left))
+answerOf k q = cond (q .cut) (Answer.Cut (k - q .left)) (Answer.Done (k - q .left))
 
 answer-spent : (ss : List Store) (k : ℕ) (f : List ℕ)
     → outcomeOf (list ss) k f .answer ≡ answerOf k (spent (record { left = k; cut = false }) (length ss))
@@ -150,13 +150,18 @@ answer-spent ss k f = ⊎-elim enough short (le-or-lt (length ss) k)
     enough h = let e : k - (k - length ss) ≡ length ss = omega arith in rw (le-leb (length ss) k h, le-ltb k (length ss) h, e)
 
     short : k < length ss → outcomeOf (list ss) k f .answer ≡ answerOf k (spent (record { left = k; cut = false }) (length ss))
-    short h = rw (lt-leb (length ss) k h, lt-ltb k (length ss) h)
+    short h = let e : k - (k - length ss) ≡ k = omega arith in rw (lt-leb (length ss) k h, lt-ltb k (length ss) h, e)
 
 -- a run is its list's outcome
 pub ran-outcome : (ss : List Store) (k : ℕ) {f g : List ℕ} {q : Power} → Ran ss (record { left = k; cut = false }) f q g
     → outcomeOf (list ss) k f ≡ record { answer = answerOf k q; flash = g }
 ran-outcome ss k {f} x =
     rw (x .power, x .words) (ap (λ (r : Answer). record { answer = r; flash = madeFirst k ss f }) (answer-spent ss k f))
+
+-- it takes no more than was given
+pub ran-left : {ss : List Store} {k : ℕ} {f g : List ℕ} {q : Power} → Ran ss (record { left = k; cut = false }) f q g → q .left ≤ k
+unfolding spent
+ran-left {ss} {k} {q = q} x = let l : q .left ≡ k - length ss = ap (λ (p : Power). p .left) (x .power) in omega arith
 
 -- ---- checks
 -- none applies
