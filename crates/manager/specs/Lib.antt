@@ -1,4 +1,5 @@
 pub mod Reading
 pub mod Storing
+pub mod Safety
 pub mod Object
 pub mod ObjectLaws
