@@ -1,8 +1,8 @@
 // The manager: what callers ask of an area of flash. It keeps nothing between requests.
 //
-// Every function here is proved, and no public one has a `requires`: any area, run, handle, data,
-// filter, place and power is answered. A request that reads changes no word. One that stores is given
-// power for so many stores, and answers how many were made.
+// Every function here is proved, and no public one has a `requires`: any area, run, handle, data and
+// power is answered. A request that reads changes no word. One that stores is given power for so many
+// stores, and answers how many were made.
 ghost use mathlib.Core.Path.{_≡_};
 ghost use mathlib.Core.Bool.{true, false};
 ghost use mathlib.Core.List.{[], _∷_};
@@ -15,7 +15,7 @@ ghost use Rattle.rules.specs.Lists.{format, recover, write, delete};
 ghost use Rattle.rules.specs.Laws.{answerOf};
 ghost use Rattle.rules.specs.Places.{Right};
 ghost use Rattle.area.specs.Checks.{checksOf};
-ghost use Rattle.manager.specs.Reading.{Reads, Searches};
+ghost use Rattle.manager.specs.Reading.{Reads};
 ghost use Rattle.manager.specs.Storing.{Answers, full, Rest};
 use area::Checked;
 use entries::Found;
@@ -25,9 +25,6 @@ use rules::Area;
 use rules::Reading;
 use rules::Refusal;
 use rules::SPECIAL;
-use rules::Yielded;
-
-pub mod object; // object.rt: a search as an object
 
 // Whether no entry can be live under a handle.
 fn bad_handle(handle: u32) -> bool
@@ -51,27 +48,6 @@ pub fn read(flash: &[u32], area: Area, handle: u16) -> Reading
             match entries::find(flash, area, handle as u32) {
                 Found::None => Reading::Refused(Refusal::NotFound),
                 Found::At { place, words } => Reading::At { place, words },
-            }
-        }
-    }
-}
-
-// The place of the next entry behind a place, 0 being the beginning, that is live and whose handle
-// agrees with the pattern in the bits of the mask. Refused are a wrong geometry, a damaged or
-// unready area, a place that is neither 0 nor that of an entry's header, and a search without a
-// further match.
-pub fn search(flash: &[u32], area: Area, mask: u16, pattern: u16, place: usize) -> Yielded
-    ensures { λ r. ⌜ Searches area mask pattern place (now (flash .entry)) r ⌝ }
-{
-    match area::check_ready(flash, area) {
-        Checked::Refused(why) => Yielded::Refused(why),
-        Checked::Passed => {
-            if entries::bad_place(flash, area, place) {
-                return Yielded::Refused(Refusal::BadPlace);
-            }
-            match entries::next_match(flash, area, mask as u32, pattern as u32, place) {
-                Found::None => Yielded::Refused(Refusal::NotFound),
-                Found::At { place, words: _ } => Yielded::At(place),
             }
         }
     }

@@ -130,14 +130,14 @@ pub fn step(run: &[u32], area: Area, mask: u16, pattern: u16, place: usize) {
     text(b" behind");
     number(place);
     byte(b':');
-    yielded(manager::search(run, area, mask, pattern, place));
+    yielded(searching::search(run, area, mask, pattern, place));
     byte(b'\n');
 }
 
 // Makes a step of a search, behind a place. Writes what it answers and, where it was not refused, the
 // handle at the new place, and answers that place, 0 if refused.
 fn next(run: &[u32], area: Area, mask: u16, pattern: u16, place: usize) -> usize {
-    let answer = manager::search(run, area, mask, pattern, place);
+    let answer = searching::search(run, area, mask, pattern, place);
     let found = answer.place();
     yielded(answer);
     if found != 0 {
@@ -162,7 +162,7 @@ pub fn whole(run: &[u32], area: Area, mask: u16, pattern: u16) {
         place = found;
     }
     text(b" again");
-    yielded(manager::search(run, area, mask, pattern, place));
+    yielded(searching::search(run, area, mask, pattern, place));
     byte(b'\n');
 }
 
@@ -170,7 +170,7 @@ pub fn whole(run: &[u32], area: Area, mask: u16, pattern: u16) {
 pub fn both(run: &[u32], area: Area) {
     reading(run, area, 0x0012);
     text(b", search:");
-    yielded(manager::search(run, area, 0, 0, 0));
+    yielded(searching::search(run, area, 0, 0, 0));
     byte(b'\n');
 }
 

@@ -39,12 +39,12 @@ use denote.Triple.Statement.{Contract}
 use Rattle.rules.specs.Search.{stepOf}
 use Rattle.rules.specs.declared.Yielded.{Yielded}
 use Rattle.rules.proofs.Yielded as Y
-use Rattle.manager.specs.Object.{seen, stepped}
-use Rattle.manager.specs.declared.object.Search.{Search}
-use Rattle.manager.proofs.object.Search as T
-use Rattle.manager.proofs.object.Search.Laws as T′
-use Rattle.manager.proofs.object.Held.{Whole}
-use Rattle.manager.proofs.object.Search.step as step
+use Rattle.searching.specs.Object.{seen, stepped}
+use Rattle.searching.specs.declared.object.Search.{Search}
+use Rattle.searching.proofs.object.Search as T
+use Rattle.searching.proofs.object.Search.Laws as T′
+use Rattle.searching.proofs.object.Held.{Whole}
+use Rattle.searching.proofs.object.Search.step as step
 
 abbrev pub held : Lft → NamedLft
 held κ = record { mir = named 1; lft = κ }

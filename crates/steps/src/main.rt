@@ -7,9 +7,9 @@ ghost use mathlib.Core.Path.{_≡_};
 ghost use Rattle.steps.specs.Three.{threeSteps};
 use flash::Power;
 use libc::STDOUT_FILENO;
-use manager::object::Search;
 use rules::Area;
 use rules::Yielded;
+use searching::object::Search;
 
 // What three steps of a search yield, and the place that it has reached behind them.
 struct Steps {

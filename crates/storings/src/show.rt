@@ -49,7 +49,7 @@ pub fn reading(run: &[u32], area: Area, handle: u16) {
 // Makes a step of a search. Writes the handle that it yields and the words that a read then finds, or
 // the number of a refusal, and answers the place, 0 if refused.
 fn next(run: &[u32], area: Area, mask: u16, pattern: u16, place: usize) -> usize {
-    let yielded = manager::search(run, area, mask, pattern, place);
+    let yielded = searching::search(run, area, mask, pattern, place);
     let found = yielded.place();
     if found == 0 {
         hex(yielded.number() as u64, 2);

@@ -44,18 +44,18 @@ use Rattle.rules.proofs.Area as area
 use Rattle.rules.proofs.Area.Laws as area-laws
 use Rattle.rules.proofs.Yielded as Y
 use Rattle.rules.proofs.Yielded.Laws as Y′
-use Rattle.manager.specs.Object.{seen, stepped}
-use Rattle.manager.specs.declared.object.Search.{Search}
-use Rattle.manager.proofs.object.Search as T
-use Rattle.manager.proofs.object.Search.Laws as T′
-use Rattle.manager.proofs.object.Held.{fields, machine, Whole, Apart, typed, from-whole, from-apart}
-use Rattle.manager.proofs.object.Search.open as opening
-use Rattle.manager.proofs.object.Search.open.Symbol as open-def
-use Rattle.manager.proofs.object.Search.open.Symbol.{name as #manager·open}
-use Rattle.manager.proofs.object.Search.open.Met as open-thm
-use Rattle.manager.proofs.object.Search.step.Symbol as step-def
-use Rattle.manager.proofs.object.Search.step.Symbol.{name as #manager·step}
-use Rattle.manager.proofs.object.Search.step.Met as step-thm
+use Rattle.searching.specs.Object.{seen, stepped}
+use Rattle.searching.specs.declared.object.Search.{Search}
+use Rattle.searching.proofs.object.Search as T
+use Rattle.searching.proofs.object.Search.Laws as T′
+use Rattle.searching.proofs.object.Held.{fields, machine, Whole, Apart, typed, from-whole, from-apart}
+use Rattle.searching.proofs.object.Search.open as opening
+use Rattle.searching.proofs.object.Search.open.Symbol as open-def
+use Rattle.searching.proofs.object.Search.open.Symbol.{name as #searching·open}
+use Rattle.searching.proofs.object.Search.open.Met as open-thm
+use Rattle.searching.proofs.object.Search.step.Symbol as step-def
+use Rattle.searching.proofs.object.Search.step.Symbol.{name as #searching·step}
+use Rattle.searching.proofs.object.Search.step.Met as step-thm
 use Rattle.steps.specs.declared.Steps.{Steps}
 use Rattle.steps.proofs.Lent.{Step, held, called, Asks, Yields, lends, comes-back}
 use Rattle.steps.proofs.Steps as S
@@ -131,7 +131,7 @@ module _ {M : Type 1} (𝓤 : URA M) (H : Heap 𝓤) (A : Atoms 𝓤) (W : Given
         nothing ! $ move ! (1 ∷ 0 ∷ []) $ join ! $ frame ! $ use1 W (‵ (Apart α s) ⊛ ‵ (Whole α s)) (from-whole α s 𝓤 H A W) $ split ! $ frame ! $
         keep ! [] $ owned ! S.the-row (Is S.the-row) (LL.makes S.the-type S′.the-plain 𝓤 H A) (result r₁ r₂ r₃) (spelled u₁ u₂ u₃ ∷ []) result-is $ done !
 
-  module _ (C : Calls 𝓤 H) (Λ : Loops 𝓤 H) (fm : FmC 𝓤 H (W .laws) C) (opens : Triple 𝓤 (C #manager·open) (Open 𝓤 H A mem run)) (steps : Triple 𝓤 (C #manager·step) (Step 𝓤 H A mem run)) where
+  module _ (C : Calls 𝓤 H) (Λ : Loops 𝓤 H) (fm : FmC 𝓤 H (W .laws) C) (opens : Triple 𝓤 (C #searching·open) (Open 𝓤 H A mem run)) (steps : Triple 𝓤 (C #searching·step) (Step 𝓤 H A mem run)) where
     walk : WT (T′.lowered s) → ent 𝓤 (onEntry 𝓤 H A three.signature (κ, tt) (q, tt) (fields α s) (machine α s)) (WpFn 𝓤 H C Λ code.function (flat (rows (T.the-type α .parts)) (machine α s)) Post)
     walk wt =
         qed W (raw (onEntry 𝓤 H A three.signature (κ, tt) (q, tt) (fields α s) (machine α s)) ∷ []) ∵ enter ! C Λ code.function _ _ $
@@ -178,14 +178,14 @@ module _ {M : Type 1} (𝓤 : URA M) (H : Heap 𝓤) (A : Atoms 𝓤) (W : Given
         by ! (exits r₁ r₂ r₃ u₁ u₂ u₃ is₁ is₂ is₃ g e₁ e₂ e₃))))))))))))))))))))))))))))))))))))
 
 module _ {M : Type 1} (𝓤 : URA M) (H : Heap 𝓤) (A : Atoms 𝓤) (W : Given 𝓤 H A) (mem : Memory → SProp 𝓤) (run : Routine → Fun 𝓤) where
-  three-walks : (C : Calls 𝓤 H) (Λ : Loops 𝓤 H) → FmC 𝓤 H (W .laws) C → Triple 𝓤 (C #manager·open) (Open 𝓤 H A mem run) → Triple 𝓤 (C #manager·step) (Step 𝓤 H A mem run) → Walks 𝓤 H A three.ended stayed (WpFn 𝓤 H C Λ code.function) (three.clauses 𝓤 H A mem run)
+  three-walks : (C : Calls 𝓤 H) (Λ : Loops 𝓤 H) → FmC 𝓤 H (W .laws) C → Triple 𝓤 (C #searching·open) (Open 𝓤 H A mem run) → Triple 𝓤 (C #searching·step) (Step 𝓤 H A mem run) → Walks 𝓤 H A three.ended stayed (WpFn 𝓤 H C Λ code.function) (three.clauses 𝓤 H A mem run)
   three-walks C Λ fm opens steps =
       walked 𝓤 H A three.ended stayed (three.clauses 𝓤 H A mem run) (WpFn 𝓤 H C Λ code.function)
       (λ κs. (slice-vals, (LL.vals area.the-type area-laws.the-laws, (uint-vals w16, (uint-vals w16, (uint-vals w64, tt))))))
       (λ κs. (shr-slice-tells (named 0) (κs .0) u32, (LL.tells area.the-type area-laws.the-laws, (uint-tells w16, (uint-tells w16, (uint-tells w64, tt))))))
       (λ κs qs bounds a g are. via 𝓤 _ (fst∗ 𝓤 _ (emp 𝓤)) (walk 𝓤 H A W mem run (κs .0) (qs .0) (made a) C Λ fm opens steps (typed (namedLft 1 0 tt κs) (made a) 𝓤 H A W (LL.owes (T.the-type (namedLft 1 0 tt κs)) (T′.the-laws (namedLft 1 0 tt κs)) (made a) are))))
 
-three-meets : {M : Type 1} (𝓤 : URA M) (H : Heap 𝓤) (A : Atoms 𝓤) → Given 𝓤 H A → (mem : Memory → SProp 𝓤) (run : Routine → Fun 𝓤) (𝓣 : Tables 𝓤 H) → Triple 𝓤 (𝓣 .C #manager·open) (Open 𝓤 H A mem run) → Triple 𝓤 (𝓣 .C #manager·step) (Step 𝓤 H A mem run)
+three-meets : {M : Type 1} (𝓤 : URA M) (H : Heap 𝓤) (A : Atoms 𝓤) → Given 𝓤 H A → (mem : Memory → SProp 𝓤) (run : Routine → Fun 𝓤) (𝓣 : Tables 𝓤 H) → Triple 𝓤 (𝓣 .C #searching·open) (Open 𝓤 H A mem run) → Triple 𝓤 (𝓣 .C #searching·step) (Step 𝓤 H A mem run)
     → Meets 𝓤 H A three.signature (WpFn 𝓤 H (𝓣 .C) (𝓣 .Λ) code.function) (three.spec 𝓤 H A mem run)
 three-meets 𝓤 H A W mem run 𝓣 opens steps =
     walk-meets 𝓤 H A three.ended stayed W
@@ -198,5 +198,5 @@ three-steps-spec 𝓤 H 𝓜 𝓖 𝓡 =
     entered 𝓤 H (tripleOf 𝓤 H (𝓖 .A) three.signature (three.spec 𝓤 H (𝓖 .A) (𝓜 .mem) (𝓡 .run)))
     (tables 𝓤 H 𝓜 𝓡 code.env .C) (tables 𝓤 H 𝓜 𝓡 code.env .Λ) #steps·three-steps code.function (code.unfolded 𝓤 H 𝓜 𝓡)
     (three-meets 𝓤 H (𝓖 .A) (givenOf 𝓤 H 𝓜 𝓖) (𝓜 .mem) (𝓡 .run) (tablesOf 𝓤 H 𝓜 (tables 𝓤 H 𝓜 𝓡 code.env))
-    (cited 𝓤 H (Open 𝓤 H (𝓖 .A) (𝓜 .mem) (𝓡 .run)) 𝓜 𝓡 code.env #manager·open open-def.routine code.calls-manager·object·Search·open (open-thm.met 𝓤 H 𝓜 𝓖 𝓡))
-    (cited 𝓤 H (Step 𝓤 H (𝓖 .A) (𝓜 .mem) (𝓡 .run)) 𝓜 𝓡 code.env #manager·step step-def.routine code.calls-manager·object·Search·step (step-thm.met 𝓤 H 𝓜 𝓖 𝓡)))
+    (cited 𝓤 H (Open 𝓤 H (𝓖 .A) (𝓜 .mem) (𝓡 .run)) 𝓜 𝓡 code.env #searching·open open-def.routine code.calls-searching·object·Search·open (open-thm.met 𝓤 H 𝓜 𝓖 𝓡))
+    (cited 𝓤 H (Step 𝓤 H (𝓖 .A) (𝓜 .mem) (𝓡 .run)) 𝓜 𝓡 code.env #searching·step step-def.routine code.calls-searching·object·Search·step (step-thm.met 𝓤 H 𝓜 𝓖 𝓡)))

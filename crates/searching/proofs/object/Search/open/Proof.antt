@@ -32,14 +32,14 @@ use denote.Triple.Walked.{says, Stays, stay-none, stay-none-slice, walkOf, goes-
 use denote.Exit.{yes}
 use Rattle.rules.proofs.Area as area
 use Rattle.rules.proofs.Area.Laws as area-laws
-use Rattle.manager.specs.declared.object.Search.{Search}
-use Rattle.manager.proofs.object.Search as T
-use Rattle.manager.proofs.object.Search.Laws as T′
-use Rattle.manager.proofs.object.Held.{fields, machine, Whole, Apart, typed, from-apart}
-use Rattle.manager.proofs.object.Search.open.Key.{name as #manager·open}
-use Rattle.manager.proofs.object.Search.open as opening
-use Rattle.manager.proofs.object.Search.open.Statement as stated
-use Rattle.manager.proofs.object.Search.open.Code as code
+use Rattle.searching.specs.declared.object.Search.{Search}
+use Rattle.searching.proofs.object.Search as T
+use Rattle.searching.proofs.object.Search.Laws as T′
+use Rattle.searching.proofs.object.Held.{fields, machine, Whole, Apart, typed, from-apart}
+use Rattle.searching.proofs.object.Search.open.Key.{name as #searching·open}
+use Rattle.searching.proofs.object.Search.open as opening
+use Rattle.searching.proofs.object.Search.open.Statement as stated
+use Rattle.searching.proofs.object.Search.open.Code as code
 
 -- the search that is made of the values passed
 abbrev made : T.Data → Search
@@ -91,5 +91,5 @@ pub open-spec : {M : Type 1} → stated.statement M
 unfolding code.routine tablesOf
 open-spec 𝓤 H 𝓜 𝓖 𝓡 =
     entered 𝓤 H (tripleOf 𝓤 H (𝓖 .A) opening.signature (opening.spec 𝓤 H (𝓖 .A) (𝓜 .mem) (𝓡 .run)))
-    (tables 𝓤 H 𝓜 𝓡 code.env .C) (tables 𝓤 H 𝓜 𝓡 code.env .Λ) #manager·open code.function (code.unfolded 𝓤 H 𝓜 𝓡)
+    (tables 𝓤 H 𝓜 𝓡 code.env .C) (tables 𝓤 H 𝓜 𝓡 code.env .Λ) #searching·open code.function (code.unfolded 𝓤 H 𝓜 𝓡)
     (open-meets 𝓤 H (𝓖 .A) (givenOf 𝓤 H 𝓜 𝓖) (𝓜 .mem) (𝓡 .run) (tablesOf 𝓤 H 𝓜 (tables 𝓤 H 𝓜 𝓡 code.env)))

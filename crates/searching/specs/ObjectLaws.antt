@@ -8,8 +8,8 @@ use Rattle.rules.specs.declared.Area.{Area}
 use Rattle.rules.specs.declared.Refusal.{Refusal}
 use Rattle.rules.specs.declared.Yielded.{Yielded}
 use Rattle.rules.specs.Search.{stepOf, placeAfter, moved}
-use Rattle.manager.specs.declared.object.Search.{Search}
-use Rattle.manager.specs.Object.{seen, stepped, Opens, Steps}
+use Rattle.searching.specs.declared.object.Search.{Search}
+use Rattle.searching.specs.Object.{seen, stepped, Opens, Steps}
 
 -- its step is the rules' step
 pub stepped-moved : (s : Search) → seen (stepped s) ≡ moved (seen s)

@@ -6,7 +6,7 @@ use denote.Ref.{RefT, now}
 use Rattle.rules.specs.declared.Area.{Area}
 use Rattle.rules.specs.declared.Yielded.{Yielded}
 use Rattle.rules.specs.Search as rule
-use Rattle.manager.specs.declared.object.Search.{Search}
+use Rattle.searching.specs.declared.object.Search.{Search}
 
 -- a search as the rules see it: the run is the words that it holds
 abbrev pub seen : Search → rule.Search

@@ -24,9 +24,9 @@ use denote.Struct.Laws as LL
 use denote.Struct.Rest.{all-own, own-open, own-shut}
 use denote.Struct.Values.{Values}
 use Rattle.rules.proofs.Area.Laws as area
-use Rattle.manager.specs.declared.object.Search.{Search}
-use Rattle.manager.proofs.object.Search as T
-use Rattle.manager.proofs.object.Search.Laws as T′
+use Rattle.searching.specs.declared.object.Search.{Search}
+use Rattle.searching.proofs.object.Search as T
+use Rattle.searching.proofs.object.Search.Laws as T′
 
 module _ (α : NamedLft) (s : Search) where
   abbrev pub fields : Values (T.the-type α .parts)

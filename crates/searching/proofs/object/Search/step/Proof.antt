@@ -45,23 +45,23 @@ use Rattle.rules.specs.Search.{placeAfter, stepOf}
 use Rattle.rules.specs.declared.Yielded.{Yielded}
 use Rattle.rules.proofs.Yielded as Y
 use Rattle.rules.proofs.Yielded.Laws as Y′
-use Rattle.manager.specs.Object.{seen}
-use Rattle.manager.specs.declared.object.Search.{Search}
-use Rattle.manager.proofs.object.Search as T
-use Rattle.manager.proofs.object.Search.Laws as T′
-use Rattle.manager.proofs.object.Held.{fields, machine, Whole, Apart, typed, from-whole}
-use Rattle.manager.proofs.search as search
-use Rattle.manager.proofs.search.Symbol as search-def
-use Rattle.manager.proofs.search.Symbol.{name as #manager·search}
-use Rattle.manager.proofs.search.Met as search-thm
-use Rattle.manager.proofs.object.place_after as after
-use Rattle.manager.proofs.object.place_after.Symbol as after-def
-use Rattle.manager.proofs.object.place_after.Symbol.{name as #manager·place-after}
-use Rattle.manager.proofs.object.place_after.Met as after-thm
-use Rattle.manager.proofs.object.Search.step.Key.{name as #manager·step}
-use Rattle.manager.proofs.object.Search.step as step
-use Rattle.manager.proofs.object.Search.step.Statement as stated
-use Rattle.manager.proofs.object.Search.step.Code as code
+use Rattle.searching.specs.Object.{seen}
+use Rattle.searching.specs.declared.object.Search.{Search}
+use Rattle.searching.proofs.object.Search as T
+use Rattle.searching.proofs.object.Search.Laws as T′
+use Rattle.searching.proofs.object.Held.{fields, machine, Whole, Apart, typed, from-whole}
+use Rattle.searching.proofs.search as search
+use Rattle.searching.proofs.search.Symbol as search-def
+use Rattle.searching.proofs.search.Symbol.{name as #searching·search}
+use Rattle.searching.proofs.search.Met as search-thm
+use Rattle.searching.proofs.object.place_after as after
+use Rattle.searching.proofs.object.place_after.Symbol as after-def
+use Rattle.searching.proofs.object.place_after.Symbol.{name as #searching·place-after}
+use Rattle.searching.proofs.object.place_after.Met as after-thm
+use Rattle.searching.proofs.object.Search.step.Key.{name as #searching·step}
+use Rattle.searching.proofs.object.Search.step as step
+use Rattle.searching.proofs.object.Search.step.Statement as stated
+use Rattle.searching.proofs.object.Search.step.Code as code
 
 -- `Search<'a>`, as the referent's place in the signature
 abbrev behind : Slot 2
@@ -138,7 +138,7 @@ module _ {M : Type 1} (𝓤 : URA M) (H : Heap 𝓤) (A : Atoms 𝓤) (W : Given
   wt : Is R s (T′.lowered s ∷ []) → WT (T′.lowered s)
   wt = typed α s 𝓤 H A W
 
-  module _ (C : Calls 𝓤 H) (Λ : Loops 𝓤 H) (fm : FmC 𝓤 H (W .laws) C) (finds : Triple 𝓤 (C #manager·search) (Search-from 𝓤 H A at-mem run)) (moves : Triple 𝓤 (C #manager·place-after) (Place-after 𝓤 H A at-mem run)) where
+  module _ (C : Calls 𝓤 H) (Λ : Loops 𝓤 H) (fm : FmC 𝓤 H (W .laws) C) (finds : Triple 𝓤 (C #searching·search) (Search-from 𝓤 H A at-mem run)) (moves : Triple 𝓤 (C #searching·place-after) (Place-after 𝓤 H A at-mem run)) where
     walk : ent 𝓤 (onEntry 𝓤 H A step.signature (κ, (κ′, tt)) (q, (q′, tt)) x at) (WpFn 𝓤 H C Λ code.function (vptr b o ∷ []) Post)
     walk =
         qed W ((‵ (flft κ q) ⊛ ‵ (flft κ′ q′) ⊛ ‵ ftrue) ∷ ‵ (owns (MutRef (named 0) κ R ∷ []) x at) ∷ []) ∵ enter ! C Λ code.function (vptr b o ∷ []) _ $
@@ -178,13 +178,13 @@ module _ {M : Type 1} (𝓤 : URA M) (H : Heap 𝓤) (A : Atoms 𝓤) (W : Given
         keep ! (3 ∷ 0 ∷ 1 ∷ 2 ∷ 4 ∷ []) $ by ! (exits r u p e d))))))))))))))))))))
 
 module _ {M : Type 1} (𝓤 : URA M) (H : Heap 𝓤) (A : Atoms 𝓤) (W : Given 𝓤 H A) (mem : Memory → SProp 𝓤) (run : Routine → Fun 𝓤) where
-  step-walks : (C : Calls 𝓤 H) (Λ : Loops 𝓤 H) → FmC 𝓤 H (W .laws) C → Triple 𝓤 (C #manager·search) (Search-from 𝓤 H A mem run) → Triple 𝓤 (C #manager·place-after) (Place-after 𝓤 H A mem run)
+  step-walks : (C : Calls 𝓤 H) (Λ : Loops 𝓤 H) → FmC 𝓤 H (W .laws) C → Triple 𝓤 (C #searching·search) (Search-from 𝓤 H A mem run) → Triple 𝓤 (C #searching·place-after) (Place-after 𝓤 H A mem run)
       → Walks 𝓤 H A step.ended stayed (WpFn 𝓤 H C Λ code.function) (step.clauses 𝓤 H A mem run)
   step-walks C Λ fm finds moves =
       walked 𝓤 H A step.ended stayed (step.clauses 𝓤 H A mem run) (WpFn 𝓤 H C Λ code.function) (λ κs. (ptr-vals, tt)) (λ κs. (mut-tells (named 0) (κs .0) (T.the-row (namedLft 2 1 tt κs)), tt))
       (λ κs qs bounds a g are. via 𝓤 _ (fst∗ 𝓤 _ (emp 𝓤)) (walk 𝓤 H A W mem run (κs .0) (κs .1 .0) bounds (qs .0) (qs .1 .0) (a .0 .ptr .0) (a .0 .ptr .1) (a .0 .name) (a .0 .now) C Λ fm finds moves))
 
-step-meets : {M : Type 1} (𝓤 : URA M) (H : Heap 𝓤) (A : Atoms 𝓤) → Given 𝓤 H A → (mem : Memory → SProp 𝓤) (run : Routine → Fun 𝓤) (𝓣 : Tables 𝓤 H) → Triple 𝓤 (𝓣 .C #manager·search) (Search-from 𝓤 H A mem run) → Triple 𝓤 (𝓣 .C #manager·place-after) (Place-after 𝓤 H A mem run)
+step-meets : {M : Type 1} (𝓤 : URA M) (H : Heap 𝓤) (A : Atoms 𝓤) → Given 𝓤 H A → (mem : Memory → SProp 𝓤) (run : Routine → Fun 𝓤) (𝓣 : Tables 𝓤 H) → Triple 𝓤 (𝓣 .C #searching·search) (Search-from 𝓤 H A mem run) → Triple 𝓤 (𝓣 .C #searching·place-after) (Place-after 𝓤 H A mem run)
     → Meets 𝓤 H A step.signature (WpFn 𝓤 H (𝓣 .C) (𝓣 .Λ) code.function) (step.spec 𝓤 H A mem run)
 step-meets 𝓤 H A W mem run 𝓣 finds moves =
     walk-meets 𝓤 H A step.ended stayed W (goes-ref 𝓤 H A W 2 0 tt behind, tt) (step.clauses 𝓤 H A mem run) (WpFn 𝓤 H (𝓣 .C) (𝓣 .Λ) code.function) (WpFn-mono 𝓤 H (W .laws) 𝓣 code.function)
@@ -194,7 +194,7 @@ pub step-spec : {M : Type 1} → stated.statement M
 unfolding code.routine tablesOf
 step-spec 𝓤 H 𝓜 𝓖 𝓡 =
     entered 𝓤 H (tripleOf 𝓤 H (𝓖 .A) step.signature (step.spec 𝓤 H (𝓖 .A) (𝓜 .mem) (𝓡 .run)))
-    (tables 𝓤 H 𝓜 𝓡 code.env .C) (tables 𝓤 H 𝓜 𝓡 code.env .Λ) #manager·step code.function (code.unfolded 𝓤 H 𝓜 𝓡)
+    (tables 𝓤 H 𝓜 𝓡 code.env .C) (tables 𝓤 H 𝓜 𝓡 code.env .Λ) #searching·step code.function (code.unfolded 𝓤 H 𝓜 𝓡)
     (step-meets 𝓤 H (𝓖 .A) (givenOf 𝓤 H 𝓜 𝓖) (𝓜 .mem) (𝓡 .run) (tablesOf 𝓤 H 𝓜 (tables 𝓤 H 𝓜 𝓡 code.env))
-    (cited 𝓤 H (Search-from 𝓤 H (𝓖 .A) (𝓜 .mem) (𝓡 .run)) 𝓜 𝓡 code.env #manager·search search-def.routine code.calls-manager·search (search-thm.met 𝓤 H 𝓜 𝓖 𝓡))
-    (cited 𝓤 H (Place-after 𝓤 H (𝓖 .A) (𝓜 .mem) (𝓡 .run)) 𝓜 𝓡 code.env #manager·place-after after-def.routine code.calls-manager·object·place-after (after-thm.met 𝓤 H 𝓜 𝓖 𝓡)))
+    (cited 𝓤 H (Search-from 𝓤 H (𝓖 .A) (𝓜 .mem) (𝓡 .run)) 𝓜 𝓡 code.env #searching·search search-def.routine code.calls-searching·search (search-thm.met 𝓤 H 𝓜 𝓖 𝓡))
+    (cited 𝓤 H (Place-after 𝓤 H (𝓖 .A) (𝓜 .mem) (𝓡 .run)) 𝓜 𝓡 code.env #searching·place-after after-def.routine code.calls-searching·object·place-after (after-thm.met 𝓤 H 𝓜 𝓖 𝓡)))

@@ -4,7 +4,7 @@
 // Every function here is proved, and none has a `requires`.
 ghost use mathlib.Core.Path.{_≡_};
 ghost use Rattle.rules.specs.Search.{placeAfter};
-ghost use Rattle.manager.specs.Object.{Opens, Steps};
+ghost use Rattle.searching.specs.Object.{Opens, Steps};
 use rules::Area;
 use rules::Yielded;
 

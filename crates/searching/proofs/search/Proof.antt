@@ -1,8 +1,8 @@
 -- `search` makes its checks in their order and answers what was found. Assumes nothing.
 use borrow.Author.Needs.{needs}
-use Rattle.manager.specs.Reading.{searches}
-use Rattle.manager.proofs.search.Statement.{statement}
-use Rattle.manager.proofs.search.Tie as tie
+use Rattle.searching.specs.Searching.{searches}
+use Rattle.searching.proofs.search.Statement.{statement}
+use Rattle.searching.proofs.search.Tie as tie
 
 check-ready-requires : tie.Need-check-ready-requires
 check-ready-requires c κs = search needs
