@@ -5,7 +5,7 @@ use mathlib.Core.Path.{_≡_, refl, ap, sym, subst, _∙_}
 use mathlib.Core.List.{List, [], _∷_}
 use mathlib.Core.Bool.{Bool, true, false, cond}
 use mathlib.Core.Logic.{_⊎_, inl, inr, ⊎-elim, _≢_}
-use mathlib.Core.Option.{some}
+use mathlib.Core.Option.{some, none}
 use Prim.Native.Nat.{ℕ, _+_, _≤_, _<_}
 use native.Mathlib.Omega.{arith}
 use lib.ListN.{length, take}
@@ -20,11 +20,11 @@ use Rattle.rules.specs.declared.Answer.{Answer}
 use Rattle.rules.specs.declared.Reading.{Reading}
 use Rattle.rules.specs.Areas.{entries, liveWords, mapOf, ready}
 use Rattle.rules.specs.Refusals.{answerStores, Plan, refuse, list, outcomeOf}
-use Rattle.rules.specs.Lists.{Request, recover, write, delete, planOf}
+use Rattle.rules.specs.Lists.{Request, format, recover, write, delete, planOf}
 use Rattle.rules.specs.Search.{readOf}
 use Rattle.rules.specs.Laws.{stores-made}
 use Rattle.demands.specs.Terms.{Given, Fair, Typed, Change, Proper, handleIn, newWords, changed, WithinQuota, Holds, StandsAt, wasCut, run, Recovers, whole, then-again, Tried, untried, and-tried, Carried, uncut, CarriedAll, no-more, and-then, FineAll}
-use Rattle.demands.specs.Demands.{no-bit-back, reads-back, reads-none, before-or-after, either-order}
+use Rattle.demands.specs.Demands.{no-bit-back, whole-change, formatted, reads-back, reads-none, before-or-after, either-order}
 use Rattle.manager.specs.Reading.{Reads}
 use Rattle.manager.specs.Storing.{Answers}
 
@@ -59,7 +59,8 @@ module _ {a : Area} {r : Request} {k : ℕ} {f g : List ℕ} {x : Answer} (c : A
   pub no-bit-asked-back : Given a f → Typed r → Fair a ss f
   no-bit-asked-back w t = no-bit-back w r t ss e
 
--- ---- What is written reads back, and what is deleted does not.
+-- ---- A change that was DONE is the map with that change made and no other: what is written reads back, what is deleted does not. A format
+-- that was DONE is an empty map.
 done-plan : (p : Plan) (k s : ℕ) (f : List ℕ) → outcomeOf p k f .answer ≡ Answer.Done s → (ss : List Store) × (p ≡ list ss) × (outcomeOf p k f .flash ≡ made ss f)
 done-plan (refuse n) k s f e = absurd (let y : _≡_ {A = ℕ} 0 1 = cc in let w : ⊥ = omega arith in w)
 done-plan (list ss) k s f e = (ss, refl, go (leb (length ss) k) refl)
@@ -69,6 +70,16 @@ done-plan (list ss) k s f e = (ss, refl, go (leb (length ss) k) refl)
     go false q = let z : Answer.Cut k ≡ Answer.Done s = rw q at e in absurd (let y : _≡_ {A = ℕ} 0 1 = cc in let w : ⊥ = omega arith in w)
 
 module _ {a : Area} {k s : ℕ} {f g : List ℕ} (w : Given a f) where
+  pub done-changed : {r : Request} → Change r → Answers a r k f (Answer.Done s) g → Holds a g (changed r (mapOf a f))
+  done-changed {r} q c =
+      let l = done-plan (planOf a r f) k s f (sym (c .answer)) in
+      rw (c .flash ∙ l .2) (whole-change w r q (l .0) (l .1))
+
+  pub formatted-empty : Answers a format k f (Answer.Done s) g → Holds a g (λ u. none)
+  formatted-empty c =
+      let l = done-plan (planOf a format f) k s f (sym (c .answer)) in
+      rw (c .flash ∙ l .2) (formatted w (l .0) (l .1))
+
   pub written-reads : {x : Reading} (h : ℕ) (d : List ℕ) → Words d → Answers a (write h d) k f (Answer.Done s) g → Reads a h g x
       → (p : ℕ) × (x ≡ Reading.At p (length d)) × StandsAt g p h d
   written-reads h d q c r =
