@@ -64,7 +64,7 @@ fn live_length(flash: &[u32], area: Area, index: usize) -> usize
     pages::live_words(area::page_part(flash, area, index))
 }
 
-// A page's live entries to R, there are so many words of them, then the seal and the metadata.
+// A page's live entries, so many words in all, to R; then the seal behind them, and the metadata.
 fn fill_r(flash: &mut [u32], area: Area, index: usize, live: usize, power: Power) -> Power
     requires { ⌜ Right area (now flash) × (index < area .pages) × (live ≡ length (liveCodes area (now flash) index)) × (live ≤ area .words) ⌝ }
     ensures { λ r. ⌜ Ran (copyTo area (R area) index (liveCodes area (now (flash .entry)) index ++ seal ∷ [])) power (now (flash .entry)) r (now (flash .exit)) ⌝ }

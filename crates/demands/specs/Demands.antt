@@ -35,6 +35,7 @@ use Rattle.demands.specs.Settled.{given-first, settled-ready, Stands, st
 use Rattle.demands.specs.Finishing.{Undamaged, recover-resumes, recover-fair, recover-ready, ready-rests, recovered-keeps, plain-kept, undamaged-pages-are, pages-undamaged}
 use Rattle.demands.specs.Format.{format-fair, format-settled, format-ready, format-empty, format-length}
 use Rattle.demands.specs.Room.{room-page, no-room-page, compact-page, compact-exists}
+use Rattle.demands.specs.Counting.{recover-few}
 use Rattle.demands.specs.Compacting.{packed-stands, packed-room}
 use Rattle.demands.specs.Reading.{read-held, read-absent, held-read, search-yields, search-skips-none, place-entry, entry-place, search-read}
 use Rattle.demands.specs.Requests.{Changes, legal-handle, map-holds, room-held, room-left, write-planned, write-refused, delete-planned, delete-refused, delete-absent, listed, delete-list, write-counts, write-most, changes, change-ready, run-safe, recover-planned, recovers-ends, proper-of, Left, as-before, changed-already}
@@ -119,6 +120,9 @@ module _ {a : Area} {f : List ℕ} (given : Given a f) where
       let p = proper-of h d (t .0) (t .1 .0) c in
       let w = rw (k .1) at (write-counts s h d p (t .1 .1 .0)) in
       (w, write-most s h d p (length ss) w)
+
+  pub recover-stores : (ss : List Store) → planOf a recover f ≡ list ss → length ss ≤ a .words + 4 + (2 * a .pages + a .pages * a .words)
+  recover-stores ss e = rw (← listed (recoverChecks a f) (recoverList a f) ss e .1) (recover-few a f)
 
   pub ready-stores : ready a f ≡ true → planOf a recover f ≡ list []
   ready-stores r = recover-planned (undamaged (ready-sound a f fit r)) ∙ ap list (ready-rests a f fit r)

@@ -9,6 +9,7 @@ pub mod Mending
 pub mod Finishing
 pub mod Format
 pub mod Room
+pub mod Counting
 pub mod Compacting
 pub mod Appending
 pub mod Reading

@@ -6,8 +6,9 @@ use mathlib.Core.List.{List, [], _∷_}
 use mathlib.Core.Bool.{Bool, true, false, cond}
 use mathlib.Core.Logic.{_⊎_, inl, inr, ⊎-elim, _≢_}
 use mathlib.Core.Option.{some, none}
-use Prim.Native.Nat.{ℕ, _+_, _≤_, _<_}
+use Prim.Native.Nat.{ℕ, _+_, _*_, _≤_, _<_}
 use native.Mathlib.Omega.{arith}
+use native.Mathlib.Nat.{mul-le-mul-right}
 use lib.ListN.{length, take}
 use lib.Dec.{leb}
 use borrow.Author.Tests.{le-leb, lt-leb, leb-true, eq-eqb, ne-eqb}
@@ -23,8 +24,10 @@ use Rattle.rules.specs.Refusals.{answerStores, Plan, refuse, list, outcomeOf}
 use Rattle.rules.specs.Lists.{Request, format, recover, write, delete, planOf}
 use Rattle.rules.specs.Search.{readOf}
 use Rattle.rules.specs.Laws.{stores-made}
-use Rattle.demands.specs.Terms.{Given, Fair, Typed, Change, Proper, handleIn, newWords, changed, WithinQuota, Holds, StandsAt, wasCut, run, Recovers, whole, then-again, Tried, untried, and-tried, Carried, uncut, CarriedAll, no-more, and-then, FineAll}
-use Rattle.demands.specs.Demands.{no-bit-back, whole-change, formatted, reads-back, reads-none, before-or-after, either-order}
+use Rattle.rules.specs.Places.{right-of}
+use Rattle.demands.specs.Terms.{Given, Fair, Typed, Change, Proper, ProperAll, handleIn, dataIn, newWords, Map, changed, changedAll, WithinQuota, newWordsAll, Holds, StandsAt, wasCut, run, Recovers, whole, then-again, Tried, untried, and-tried, Carried, uncut, CarriedAll, no-more, and-then, FineAll}
+use Rattle.demands.specs.Demands.{no-bit-back, format-stores, delete-stores, write-stores, recover-stores, whole-change, formatted, reads-back, reads-none, map-read, map-unread, before-or-after, either-order, after-each-cut}
+use Rattle.demands.specs.Runs.{usable}
 use Rattle.manager.specs.Reading.{Reads}
 use Rattle.manager.specs.Storing.{Answers}
 
@@ -58,6 +61,25 @@ module _ {a : Area} {r : Request} {k : ℕ} {f g : List ℕ} {x : Answer} (c : A
 
   pub no-bit-asked-back : Given a f → Typed r → Fair a ss f
   no-bit-asked-back w t = no-bit-back w r t ss e
+
+-- Power FFFFFFFF is enough for any list, so that what is cut can always be carried through.
+not-cut-by : (p : Plan) (k : ℕ) (f : List ℕ) → ((ss : List Store) → p ≡ list ss → length ss ≤ k) → wasCut (outcomeOf p k f .answer) ≡ false
+not-cut-by (refuse n) k f h = refl
+not-cut-by (list ss) k f h = rw (le-leb (length ss) k (h ss refl))
+
+module _ {a : Area} {f : List ℕ} (w : Given a f) where
+  list-short : (r : Request) → Typed r → (ss : List Store) → planOf a r f ≡ list ss → length ss ≤ 0xFFFFFFFF
+  list-short format t ss e = let n = w .few-pages in omega (arith, format-stores w ss e)
+  list-short recover t ss e =
+      let n = w .few-pages in
+      let m = right-of a f (usable w .right) .narrow in
+      let p : a .pages * a .words ≤ 255 * a .words = mul-le-mul-right (a .words) n in
+      omega (arith, recover-stores w ss e)
+  list-short (write h d) t ss e = let m = right-of a f (usable w .right) .narrow in omega (arith, write-stores w h d t ss e .1)
+  list-short (delete h) t ss e = omega (arith, delete-stores w h ss e)
+
+  pub power-enough : {r : Request} {g : List ℕ} {x : Answer} → Typed r → Answers a r 0xFFFFFFFF f x g → wasCut x ≡ false
+  power-enough {r} t c = ap wasCut (c .answer) ∙ not-cut-by (planOf a r f) 0xFFFFFFFF f (list-short r t)
 
 -- ---- A change that was DONE is the map with that change made and no other: what is written reads back, what is deleted does not. A format
 -- that was DONE is an empty map.
@@ -93,6 +115,14 @@ module _ {a : Area} {k s : ℕ} {f g : List ℕ} (w : Given a f) where
       let l = done-plan (planOf a (delete h) f) k s f (sym (c .answer)) in
       r ∙ ap (readOf a h) (c .flash ∙ l .2) ∙ reads-none w h (l .0) (l .1)
 
+-- What a map holds is what a read gives, of every handle.
+module _ {a : Area} {m : Map} {g : List ℕ} {x : Reading} (s : Holds a g m) where
+  pub held-reads : (h : ℕ) (d : List ℕ) → m h ≡ some d → Reads a h g x → (p : ℕ) × (x ≡ Reading.At p (length d)) × StandsAt g p h d
+  held-reads h d e r = let b = map-read (s .given) (s .ready) h d (s .map h ∙ e) in (b .0, r ∙ b .1, b .2)
+
+  pub absent-reads : (h : ℕ) → 1 ≤ h → h ≤ 0x7EFF → m h ≡ none → Reads a h g x → x ≡ Reading.Refused NotFound
+  absent-reads h l u e r = r ∙ map-unread (s .given) (s .ready) h l u (s .map h ∙ e)
+
 -- ---- Demand 3. Recoveries, each with any power, and at last one that is not cut.
 pub data Recovered (a : Area) : List ℕ → List ℕ → Type 0 where
   at-last : {k : ℕ} {f g : List ℕ} {x : Answer} → Answers a recover k f x g → wasCut x ≡ false → Recovered a f g
@@ -107,15 +137,14 @@ module _ {a : Area} {r : Request} {k : ℕ} {f g l : List ℕ} {x : Answer} (w :
   pub old-or-new : Change r → Answers a r k f x g → Recovered a g l → Holds a l (mapOf a f) ⊎ Holds a l (changed r (mapOf a f))
   old-or-new q c t = before-or-after w e r q k l (subst (λ (u : List ℕ). Recovers a u l) (c .flash) (recovers t))
 
--- So the handle written has its old value or its new one, and every other handle the value that it had.
-module _ {a : Area} {k h : ℕ} {d f g l : List ℕ} {x : Answer} (w : Given a f) (e : ready a f ≡ true) where
-  pub value-old-or-new : Words d → Answers a (write h d) k f x g → Recovered a g l
-      → (ready a l ≡ true) × ((mapOf a l h ≡ mapOf a f h) ⊎ (mapOf a l h ≡ some d)) × ((u : ℕ) → u ≢ h → mapOf a l u ≡ mapOf a f u)
+  -- So its handle has the old value or the new one, and every other handle the value that it had.
+  pub value-old-or-new : Change r → Answers a r k f x g → Recovered a g l
+      → (ready a l ≡ true) × ((mapOf a l (handleIn r) ≡ mapOf a f (handleIn r)) ⊎ (mapOf a l (handleIn r) ≡ dataIn r)) × ((u : ℕ) → u ≢ handleIn r → mapOf a l u ≡ mapOf a f u)
   value-old-or-new q c t =
       ⊎-elim
-      (λ (s : Holds a l (mapOf a f)). (s .ready, inl (s .map h), λ u n. s .map u))
-      (λ (s : Holds a l (changed (write h d) (mapOf a f))). (s .ready, inr (s .map h ∙ rw (eq-eqb h h refl)), λ u n. s .map u ∙ rw (ne-eqb u h n)))
-      (old-or-new w e q c t)
+      (λ (s : Holds a l (mapOf a f)). (s .ready, inl (s .map (handleIn r)), λ u n. s .map u))
+      (λ (s : Holds a l (changed r (mapOf a f))). (s .ready, inr (s .map (handleIn r) ∙ rw (eq-eqb (handleIn r) (handleIn r) refl)), λ u n. s .map u ∙ rw (ne-eqb u (handleIn r) n)))
+      (old-or-new q c t)
 
 -- A request tried any number of times, with any power each time, and recovered each time before it is asked again.
 pub data Attempted (a : Area) (r : Request) : List ℕ → List ℕ → Type 0 where
@@ -148,3 +177,10 @@ module _ {a : Area} {f : List ℕ} (w : Given a f) (e : ready a f ≡ true) wher
       → {xs ys : List Answer} {g l : List ℕ} → CarriedOut a (r ∷ (q ∷ [])) f xs g → CarriedOut a (q ∷ (r ∷ [])) f ys l
       → Holds a g (changed q (changed r (mapOf a f))) × Holds a l (changed q (changed r (mapOf a f))) × FineAll (r ∷ (q ∷ [])) xs × FineAll (q ∷ (r ∷ [])) ys
   both-orders r q p o d n {xs} {ys} {g} {l} c b = either-order w e r q p o d n xs ys g l (carried c) (carried b)
+
+  -- After each cut and full recovery, of the first request or of a later one, the map is the one from before that request or the one from
+  -- after it.
+  pub after-every-cut : (rs : List Request) → ProperAll rs → (r : Request) → Proper r → WithinQuota a (liveWords (entries a f) + newWordsAll rs + newWords r)
+      → {xs : List Answer} {g h : List ℕ} → CarriedOut a rs f xs g → Attempted a r g h
+      → Holds a h (changedAll rs (mapOf a f)) ⊎ Holds a h (changed r (changedAll rs (mapOf a f)))
+  after-every-cut rs p r o n {xs} {g} {h} c t = after-each-cut w e rs p r o n xs g h (carried c) (attempts t) .0

@@ -5,7 +5,6 @@ use mathlib.Core.List.{List, [], _∷_}
 use mathlib.Core.Bool.{Bool, true, false, cond}
 use mathlib.Core.Option.{Option}
 use Prim.Native.Nat.{ℕ, _+_, _-_, _≤_, _<_, zero-le}
-use native.Mathlib.Omega.{arith}
 use lib.ListN.{length}
 use lib.Dec.{ltb}
 use borrow.Author.Tests.{le-leb, le-ltb, lt-ltb, ltb-false}
@@ -17,7 +16,7 @@ use Rattle.rules.specs.declared.Refusal.{Refusal}
 use Rattle.rules.specs.declared.Refusal.the-variants.{Geometry, BadHandle, BadLength, NotFound, NoRoom}
 use Rattle.rules.specs.declared.Answer.{Answer}
 use Rattle.rules.specs.Walk.{entryLength}
-use Rattle.rules.specs.Areas.{Entry, entries, liveOf, find, liveWords, ready}
+use Rattle.rules.specs.Areas.{Entry, entries, find, liveWords, ready}
 use Rattle.rules.specs.Refusals.{wrongGeometry, badHandle, badLength, isNone, holds, areaQuota, noRoom, checked, recoverChecks, readyChecks, Plan, refuse, list, Outcome, outcomeOf, outcome}
 use Rattle.rules.specs.Lists.{formatList, bareIf, roomPage, appendTo, writeList, recoverList, deleteList, Request, format, recover, write, delete, planOf}
 use Rattle.rules.specs.Laws.{answerOf, ran-outcome, ran-left, Passed}
@@ -25,8 +24,8 @@ use Rattle.rules.specs.Places.{Right, right-of}
 use Rattle.area.specs.declared.Checked.{Checked}
 use Rattle.entries.specs.declared.Found.{Found}
 use Rattle.area.specs.Checks.{checksOf, passed, refused-on, passed-on, ready-is, ready-refused, ready-on, passed-right, ready-right}
-use Rattle.entries.specs.Ahead.{foundOf, found-none, found-some, found-inside}
-use Rattle.stores.specs.Making.{run-small}
+use Rattle.entries.specs.Ahead.{foundOf, found-none, found-some}
+use Rattle.stores.specs.Making.{bare-words, found-counted}
 
 -- ---- the promise
 -- of a request r with power for k stores on the flash f: what is answered, x, and the flash that is left, g, are the outcome of its plan
@@ -117,10 +116,7 @@ module _ {c : Checked} (a : Area) (h k : ℕ) (f : List ℕ) (e : c ≡ checksOf
             let w = found-some entry u g in
             answers a (delete h) k f (list (put m (n + 1) ∷ [])) (delete-by ∙ rw (t, ap isNone (w .1), ap bareIf (w .1), w .2, w .3)) (ran k (put m (n + 1) ∷ []) v o y)
 
-pub words-few : {a : Area} {f : List ℕ} {r : Found} {m n : ℕ} (h : ℕ) → r ≡ foundOf (find h (entries a f)) → r ≡ Found.At m n → Right a f → n ≤ 262144
-words-few h e q r = omega (arith, found-inside (liveOf h) e q r, run-small r)
-
-pub ruleset deletions = (ready-right, delete-refused, delete-bad-handle, delete-none, words-few, delete-ran, left-less, ran-length)
+pub ruleset deletions = (ready-right, delete-refused, delete-bad-handle, delete-none, found-counted, bare-words, delete-ran, left-less, ran-length)
 
 -- ---- write
 -- its checks before NOROOM
@@ -151,13 +147,13 @@ module _ {c : Checked} (a : Area) (f : List ℕ) (h : ℕ) (d : List ℕ) (e : c
 pub ruleset entryRules = (entry-refused, entry-bad-handle, entry-bad-length, entry-passed)
 
 -- what is left of its plan behind those checks, and its outcome
-abbrev left : Area → ℕ → List ℕ → List ℕ → Plan
-left a h d f = checked refuse ((noRoom a f h d, NoRoom) ∷ []) (list (writeList a h d f))
+abbrev restPlan : Area → ℕ → List ℕ → List ℕ → Plan
+restPlan a h d f = checked refuse ((noRoom a f h d, NoRoom) ∷ []) (list (writeList a h d f))
 
 pub record Rest (a : Area) (h : ℕ) (d : List ℕ) (k : ℕ) (f : List ℕ) (x : Answer) (g : List ℕ) : Type 0 where
-  pub outcome : outcomeOf (left a h d f) k f ≡ record { answer = x; flash = g }
+  pub outcome : outcomeOf (restPlan a h d f) k f ≡ record { answer = x; flash = g }
 
-rest-by : {x : Answer} {g : List ℕ} (a : Area) (h : ℕ) (d : List ℕ) (k : ℕ) (f : List ℕ) (p : Plan) → left a h d f ≡ p → outcomeOf p k f ≡ record { answer = x; flash = g } → Rest a h d k f x g
+rest-by : {x : Answer} {g : List ℕ} (a : Area) (h : ℕ) (d : List ℕ) (k : ℕ) (f : List ℕ) (p : Plan) → restPlan a h d f ≡ p → outcomeOf p k f ≡ record { answer = x; flash = g } → Rest a h d k f x g
 rest-by a h d k f p e c = record { outcome = ap (λ (q : Plan). outcomeOf q k f) e ∙ c }
 
 module _ {b : Bool} (a : Area) (h : ℕ) (d : List ℕ) (k : ℕ) (f : List ℕ) (e : b ≡ holds a f h d) where
@@ -183,7 +179,7 @@ module _ {c : Checked} (a : Area) (h : ℕ) (d : List ℕ) (k : ℕ) (f : List �
 
   module _ (q : c ≡ Checked.Passed) where
     pub write-rest : {x : Answer} {g : List ℕ} → Rest a h d k f x g → Answers a (write h d) k f x g
-    write-rest r = answers a (write h d) k f (left a h d f) (passed-on refuse (entryChecks a f h d) ((noRoom a f h d, NoRoom) ∷ []) (list (writeList a h d f)) e q) (r .outcome)
+    write-rest r = answers a (write h d) k f (restPlan a h d f) (passed-on refuse (entryChecks a f h d) ((noRoom a f h d, NoRoom) ∷ []) (list (writeList a h d f)) e q) (r .outcome)
 
     passes : Passed (entryChecks a f h d)
     passes = passed (entryChecks a f h d) e q

@@ -55,8 +55,8 @@ module _ {k : Recovery} (a : Area) (f : List ℕ) (e : k ≡ recovery a f) where
 pub ruleset finishes = (some-words, few-words, page-finished, finish-free, finish-unfinished, named-page, finish-committed, finish-damage, right-ran, ran-length)
 
 -- ---- all steps
-pub recovered : {p q r s : Power} {f g h k : List ℕ} (a : Area) → Ran (finish a f) p f q g → Ran (each (mend a) (a .pages) 0 g) q g r h → Ran (dropDoubles a h) r h s k
+pub all-recovered : {p q r s : Power} {f g h k : List ℕ} (a : Area) → Ran (finish a f) p f q g → Ran (each (mend a) (a .pages) 0 g) q g r h → Ran (dropDoubles a h) r h s k
     → Ran (recoverList a f) p f s k
-recovered a x y z = ran-then (finish a) (each (mend a) (a .pages) 0 then dropDoubles a) x (ran-then (each (mend a) (a .pages) 0) (dropDoubles a) y z)
+all-recovered a x y z = ran-then (finish a) (each (mend a) (a .pages) 0 then dropDoubles a) x (ran-then (each (mend a) (a .pages) 0) (dropDoubles a) y z)
 
-pub ruleset recovers = (recovered, right-ran, ran-length)
+pub ruleset recovers = (all-recovered, right-ran, ran-length)

@@ -30,7 +30,8 @@ fn finish_page(flash: &mut [u32], area: Area, index: usize, power: Power) -> Pow
     compaction::restore(flash, area, index, stop - 1, power)
 }
 
-// What R holds of a compaction finished, or R erased if it is unfinished itself.
+// A compaction that was cut is finished if R is committed, and undone if R is unfinished: then R is
+// erased.
 fn finish(flash: &mut [u32], area: Area, power: Power) -> Power
     requires { ⌜ Right area (now flash) ⌝ }
     ensures { λ r. ⌜ Ran (finish area (now (flash .entry))) power (now (flash .entry)) r (now (flash .exit)) ⌝ }
