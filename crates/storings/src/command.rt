@@ -78,7 +78,8 @@ fn single(run: &mut [u32], line: Line, list: &[u32]) {
     }
 }
 
-// Makes a line's command on what is lent of the space, and ends what is written of the line.
+// Makes a line's command on what is lent of the space, and ends what is written of the line. A mark
+// says that the space is too small.
 pub fn make(line: Line, list: &[u32], space: &mut [u32], cut: &mut [u32], again: &mut [u32]) {
     let length = line.length;
     if line.name == b'=' {
@@ -86,7 +87,7 @@ pub fn make(line: Line, list: &[u32], space: &mut [u32], cut: &mut [u32], again:
         return;
     }
     if space.len() < length {
-        show::byte(b'\n');
+        show::small();
         return;
     }
     if line.every {

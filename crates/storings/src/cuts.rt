@@ -1,10 +1,12 @@
 // Every cut of a request, and every cut of the recovery behind each. There is a line for each power:
 // number and stores of the request, and the digest behind it; number and stores of a whole recovery,
-// the digest behind that, and one number for the digests behind all cut recoveries and behind the
-// whole ones that follow them; then the map.
+// the digest behind that, and one number for the answers of all cut recoveries, of the whole ones that
+// follow them, and the digests behind each; then the map; last, number and stores of the same request
+// made once more, on what the whole recovery left and with power for all of it, and the digest.
 use crate::command::Request;
 use crate::show;
 use crate::words;
+use rules::Answer;
 use rules::Area;
 
 // Power for any list of stores.
@@ -16,14 +18,21 @@ struct Folded {
     cut: bool,
 }
 
-// Recovers a copy of the run with so much power, then wholly, and folds the digests behind both.
+// Folds an answer's number and stores, and the digest of the run that it left.
+fn answered(sum: u64, answer: Answer, run: &[u32]) -> u64 {
+    let number = words::fold(sum, answer.number() as u64);
+    let stores = words::fold(number, answer.stores() as u64);
+    words::fold(stores, words::digest(run))
+}
+
+// Recovers a copy of the run with so much power, then wholly, and folds what both come to.
 fn twice(run: &[u32], area: Area, again: &mut [u32], power: u32, sum: u64) -> Folded {
     words::copy(run, again, 0);
     let answer = manager::recover(again, area, power);
-    let once = words::fold(sum, words::digest(again));
-    manager::recover(again, area, FULL);
+    let once = answered(sum, answer, again);
+    let whole = manager::recover(again, area, FULL);
     Folded {
-        sum: words::fold(once, words::digest(again)),
+        sum: answered(once, whole, again),
         cut: answer.number() == 8,
     }
 }
@@ -41,7 +50,7 @@ fn recoveries(run: &[u32], area: Area, again: &mut [u32]) -> u64 {
     sum
 }
 
-// Writes what the recoveries of the run come to.
+// Writes what the recoveries of the run come to, and leaves it recovered in the copy.
 fn recovered(run: &[u32], area: Area, again: &mut [u32]) {
     let sum = recoveries(run, area, again);
     words::copy(run, again, 0);
@@ -50,11 +59,10 @@ fn recovered(run: &[u32], area: Area, again: &mut [u32]) {
     show::digest(sum);
     show::byte(b';');
     show::map(again, area, 0, 0);
-    show::byte(b'\n');
 }
 
-// Makes a request on a copy of the run with so much power, and recovers. Answers whether the request
-// was cut.
+// Makes a request on a copy of the run with so much power, recovers, and makes the request again with
+// power for all of it. Answers whether the first was cut.
 fn once(
     run: &[u32],
     asked: Request,
@@ -72,6 +80,11 @@ fn once(
     show::digest(words::digest(cut));
     show::byte(b';');
     recovered(cut, area, again);
+    show::byte(b';');
+    request.power = FULL;
+    show::answer(request.make(again, data));
+    show::digest(words::digest(again));
+    show::byte(b'\n');
     answer.number() == 8
 }
 
@@ -84,13 +97,15 @@ fn powers(run: &[u32], asked: Request, data: &[u32], cut: &mut [u32], again: &mu
     }
 }
 
-// The same in two spaces for copies of the run; nothing is made if they are too small.
+// The same in two spaces for copies of the run. A mark says that they are too small.
 pub fn every(run: &[u32], asked: Request, data: &[u32], cut: &mut [u32], again: &mut [u32]) {
     let length = run.len();
-    show::byte(b'\n');
     if length <= cut.len() {
         if length <= again.len() {
+            show::byte(b'\n');
             powers(run, asked, data, &mut cut[0..length], &mut again[0..length]);
+            return;
         }
     }
+    show::small();
 }

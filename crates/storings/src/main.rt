@@ -16,11 +16,13 @@
 //     map MASK PATTERN     a search: the handles that it yields, each with the words that are read,
 //                          and the last number; without mask and pattern it is for all
 //     every REQUEST        the request on copies, with power for 0 stores, for 1, and so on to the
-//                          first that is not cut, a line for each (cuts.rt)
+//                          first that is not cut, each then recovered, with every cut of that, and
+//                          the request made again: a line for each power (cuts.rt)
 //     = TEXT               says what comes next
 //
 // Only a name's first letter counts. @K is the power of a request, FFFFFFFF if nothing is said. +N
-// stands for N words that count up from the one before, *N for N more of that one.
+// stands for N words that count up from the one before, *N for N more of that one. Where the program
+// has no space for so many words, nothing is made, and it prints a `!`.
 mod command;
 mod cuts;
 mod line;

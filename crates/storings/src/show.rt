@@ -18,7 +18,12 @@ fn hex(x: u64, digits: usize) {
 // Writes a digest.
 pub fn digest(sum: u64) {
     io::write_all(STDOUT_FILENO, b" #");
-    io::print_hex(STDOUT_FILENO, sum, 8);
+    io::print_hex(STDOUT_FILENO, sum, 11);
+}
+
+// Writes the mark for a space that is too small, and ends the line.
+pub fn small() {
+    io::write_all(STDOUT_FILENO, b"!\n");
 }
 
 // Writes an answer's number and its stores.

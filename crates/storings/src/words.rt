@@ -40,9 +40,13 @@ pub fn tile(from: &[u32], to: &mut [u32], place: usize, step: usize, times: u32)
     }
 }
 
-// A digest with one number more, of which the lower 32 bits count.
+// The digests are below this prime, 2^43 - 57. As it is above all words, two runs that differ in one
+// word have different digests.
+const PRIME: u64 = 8796093022151;
+
+// A digest with one number more, be it a word, a count or another digest.
 pub fn fold(digest: u64, number: u64) -> u64 {
-    (digest % 4294967291 * 1664525 + number % 4294967296 + 1) % 4294967291
+    (digest % PRIME * 1664525 + number % PRIME + 1) % PRIME
 }
 
 // The digest of all words, in their order.
