@@ -13,11 +13,12 @@ use Rattle.flash.specs.declared.Power.{Power}
 use Rattle.flash.specs.Stores.{blank, Words, Store, put, wipe, stored, wiped, made, madeFirst, puts, Step, Ran}
 use Rattle.flash.specs.Laws.{ran-none, ran-cons, ran-append, ran-then, ran-length}
 use Rattle.rules.specs.declared.Area.{Area}
-use Rattle.rules.specs.Words.{header, handleOf, lengthOf, isLive, seal}
+use Rattle.rules.specs.Words.{header, handleOf, isLive, seal}
 use Rattle.rules.specs.Walk.{Item, codes, Walked, walkIn, items}
 use Rattle.rules.specs.Areas.{R, base, page, placed, liveWords, ready}
 use Rattle.rules.specs.Lists.{erase, keepLive, liveCodes, copyTo, restore, compact}
 use Rattle.rules.specs.Places.{Right, right-passes, right-ran, drop-take, page-from, page-in, base-in, base-le, base-suc}
+use Rattle.demands.specs.Pages.{header-of}
 use Rattle.demands.specs.Compacting.{held-in-r}
 use Rattle.demands.specs.Entries.{live-kept}
 use Rattle.pages.specs.Steps.{lengthAt, walkAt, counted, length-inside, at-header, goes-on, data-words, stops}
@@ -27,16 +28,15 @@ use Rattle.stores.specs.Making.{metadata, puts-append}
 unfoldable pub liveAt : List ℕ → ℕ → List ℕ
 liveAt p at = codes (keepLive (walkAt p at .items))
 
-whole-header : (w l : ℕ) → lengthOf w ≡ l → header (handleOf w) l ≡ w
-unfolding header
-whole-header w l e = omega arith
-
 module _ (p : List ℕ) (at n : ℕ) (e : n ≡ lengthAt p at) (z : n ≡ 0 → ⊥) where
   abbrev word : ℕ
   word = getD p at 0
 
   inside : at < length p
   inside = omega (arith, length-inside p at)
+
+  entry-header : header (handleOf word) n ≡ word
+  entry-header = rw (← at-header p at n e z .1) (header-of word)
 
   entry-words : word ∷ take (n - 1) (drop (suc at) p) ≡ take n (drop at p)
   entry-words = let s : n ≡ suc (n - 1) = omega arith in rw (drop-cons p at 0 inside) (ap (λ (k : ℕ). take k (word ∷ drop (suc at) p)) (sym s))
@@ -56,7 +56,7 @@ module _ (p : List ℕ) (at n : ℕ) (e : n ≡ lengthAt p at) (z : n ≡ 0 → 
     where
       go : (b : Bool) → isLive (handleOf word) ≡ b
           → codes (keepLive (record { handle = handleOf word; words = take (n - 1) (drop (suc at) p) } ∷ rest)) ≡ take (counted (handleOf word) n) (drop at p) ++ codes (keepLive rest)
-      go true q = rw (q, data-words p at n e z, whole-header word n (at-header p at n e z .1)) (ap (λ (x : List ℕ). x ++ codes (keepLive rest)) entry-words)
+      go true q = rw (q, data-words p at n e z, entry-header) (ap (λ (x : List ℕ). x ++ codes (keepLive rest)) entry-words)
       go false q = rw q
 
 pub live-end : {n : ℕ} (p : List ℕ) (at : ℕ) → n ≡ lengthAt p at → n ≡ 0 → liveAt p at ≡ []
@@ -186,10 +186,7 @@ length-in-part f e at w l = omega (arith, ap length w, length-take e f)
 pub kept-of-entry : {k m : ℕ} (w n : ℕ) → m ≡ counted k n → k ≡ handleOf w → m ≡ counted (handleOf w) n
 kept-of-entry w n u o = u ∙ ap (λ (h : ℕ). counted h n) o
 
-pub page-ends : {f : List ℕ} {s : ℕ} (a : Area) (i : ℕ) → Right a f → i < a .pages → s ≡ base a i → s + a .words ≤ length f
-page-ends a i r h d = omega (arith, below-r r h, r-in r h)
-
-pub ruleset copies = (copying-start, copying-on, copying-end, fewer, entry-in, from-in, to-in, copy-apart, length-of-part, length-in-part, kept-of-entry, page-ends, right-ran, ran-length)
+pub ruleset copies = (copying-start, copying-on, copying-end, fewer, entry-in, from-in, to-in, copy-apart, length-of-part, length-in-part, kept-of-entry, right-ran, ran-length)
 
 -- ---- a page's live entries in R
 pub live-count : {x : List ℕ} {m : ℕ} (a : Area) (f : List ℕ) (i : ℕ) → x ≡ page a f i → m ≡ liveWords (placed 2 (items x)) → m ≡ length (liveCodes a f i)

@@ -60,7 +60,7 @@ module _ (h l : ℕ) (k : l < 65536) where
   unfolding header
   header-length = omega arith
 
-header-of : (w : ℕ) → header (handleOf w) (lengthOf w) ≡ w
+pub header-of : (w : ℕ) → header (handleOf w) (lengthOf w) ≡ w
 unfolding header
 header-of w = omega arith
 

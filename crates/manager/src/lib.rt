@@ -3,9 +3,9 @@
 // Every function here is proved, and no public one has a `requires`: any area, run, handle, data and
 // power is answered. A request that reads changes no word. One that stores is given power for so many
 // stores, and answers how many were made.
-ghost use mathlib.Core.Path.{_≡_};
-ghost use mathlib.Core.Bool.{true, false};
+ghost use mathlib.Core.Bool.{true};
 ghost use mathlib.Core.List.{[], _∷_};
+ghost use mathlib.Core.Path.{_≡_};
 ghost use Prim.Native.Nat.{_≤_, _<_};
 ghost use lib.ListN.{length};
 ghost use Rattle.rules.specs.declared.Refusal.the-variants.{BadHandle, BadLength};

@@ -20,11 +20,11 @@ use Rattle.rules.specs.Words.{handleOf, isLive, seal}
 use Rattle.rules.specs.Walk.{stop}
 use Rattle.rules.specs.Areas.{base, page, kind, Entry, pageEntries}
 use Rattle.rules.specs.Lists.{bareIf, lastOf, bareIfLive, mendAs, mend}
-use Rattle.rules.specs.Places.{Right, right-ran, base-suc, base-in, page-in}
+use Rattle.rules.specs.Places.{Right, right-ran, base-in}
 use Rattle.pages.specs.Steps.{lengthAt, entriesAt, entryAt, length-inside, entries-on, entries-end}
 use Rattle.entries.specs.declared.Found.{Found}
 use Rattle.entries.specs.Ahead.{foundOf, page-onward}
-use Rattle.stores.specs.Making.{bareFound, found-bare}
+use Rattle.stores.specs.Making.{page-ends, bareFound, found-bare}
 
 -- an entry, if it is live
 abbrev pub ifLive : Option Entry → Option Entry
@@ -93,9 +93,6 @@ live-bare (some e) = go (isLive (e .handle)) refl
 
 -- ---- the stores of a torn page, which begins at the place b
 module _ {a : Area} {f : List ℕ} {b : ℕ} (w : Right a f) where
-  pub end-inside : {i : ℕ} → b ≡ base a i → i < a .pages → b + a .words ≤ length f
-  end-inside {i} e l = omega (arith, page-in w i (omega arith), base-suc a i)
-
   pub words-counted : {part : List ℕ} {n : ℕ} → part ≡ take (b + a .words) f → n ≤ length part → b ≤ 261120 → n ≤ 262144
   words-counted d h l = let m = w .narrow in omega (arith, ap length d, length-take (b + a .words) f)
 
@@ -117,4 +114,4 @@ module _ {k : Kind} (a : Area) (f : List ℕ) (i : ℕ) (e : k ≡ kind a f i) w
   pub mend-neither : {p : Power} → k ≡ Neither → Ran (mend a i f) p f p f
   mend-neither {p} t = rw (← e, t) (ran-none p f)
 
-pub ruleset mends = (turn-start, turn-on, turn-end, right-ran, ran-length, end-inside, words-counted, torn-mended, mend-sealed, mend-torn, mend-neither)
+pub ruleset mends = (turn-start, turn-on, turn-end, right-ran, ran-length, page-ends, words-counted, torn-mended, mend-sealed, mend-torn, mend-neither)

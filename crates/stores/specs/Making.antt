@@ -19,7 +19,7 @@ use Rattle.rules.specs.declared.Area.{Area}
 use Rattle.rules.specs.Words.{meta0, meta1, seal}
 use Rattle.rules.specs.Areas.{R, base, Entry, entries, liveOf, find}
 use Rattle.rules.specs.Lists.{erase, bareIf, eraseR, formatPage, formatList}
-use Rattle.rules.specs.Places.{Right, right-ran}
+use Rattle.rules.specs.Places.{Right, right-ran, base-suc, page-in}
 use Rattle.entries.specs.declared.Found.{Found}
 use Rattle.entries.specs.Ahead.{foundOf, found-inside}
 
@@ -55,6 +55,10 @@ module _ {a : Area} {f : List ℕ} (r : Right a f) where
 
   pub index-below : {i : ℕ} → i < a .pages → i ≤ 255
   index-below h = let m = r .many in omega arith
+
+-- a page lies inside the run
+pub page-ends : {f : List ℕ} {b : ℕ} (a : Area) (i : ℕ) → Right a f → i < a .pages → b ≡ base a i → b + a .words ≤ length f
+page-ends a i r h e = omega (arith, page-in r i (omega arith), base-suc a i)
 
 pub run-small : {a : Area} {f : List ℕ} → Right a f → length f ≤ 262144
 unfolding base
@@ -170,6 +174,6 @@ module _ (a : Area) {p q r : Power} {f g h : List ℕ} where
 pub page-erased : {p q : Power} {f g : List ℕ} {b : ℕ} (a : Area) (i : ℕ) → Ran (wipe b (a .words) ∷ []) p f q g → b ≡ base a i → Ran (erase a i ∷ []) p f q g
 page-erased a i x e = rw e at x
 
-pub ruleset places = (base-counts, base-is, base-small, meta-is, words-small, pages-small, index-small, index-below)
+pub ruleset places = (base-counts, base-is, base-small, meta-is, words-small, pages-small, index-small, index-below, page-ends)
 
 pub ruleset makings = (turn-start, turn-on, turn-end, put-end, copy-end, metadata-made, page-erased, page-formatted, all-formatted, right-ran, ran-length, places)
