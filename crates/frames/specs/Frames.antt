@@ -1,0 +1,222 @@
+-- The console: document 01, "The console". A line and an answer are lists of bytes. Definitions alone. Assumes nothing.
+use mathlib.Core.Path.{_≡_}
+use mathlib.Core.List.{List, [], _∷_, _++_}
+use mathlib.Core.Bool.{Bool, true, false, cond, _&&_, _||_}
+use Prim.Native.Nat.{ℕ, suc, zero, _+_, _-_, _*_, _/_, _%_}
+use lib.ListN.{length, getD, take, drop}
+use lib.Dec.{leb, ltb, eqb}
+use Rattle.rules.specs.declared.Area.{Area}
+use Rattle.rules.specs.declared.PageSize.{PageSize}
+use Rattle.rules.specs.declared.PageSize.the-variants.{Small, Medium, Large}
+use Rattle.rules.specs.declared.Refusal.the-variants.{Geometry}
+use Rattle.rules.specs.declared.Answer.{Answer}
+use Rattle.rules.specs.declared.Reading.{Reading}
+use Rattle.rules.specs.declared.Yielded.{Yielded}
+use Rattle.rules.specs.Words.{wordsOf}
+use Rattle.rules.specs.Areas.{Entry, entries}
+use Rattle.rules.specs.Refusals.{refusalNumber, answerNumber, answerStores, wrongGeometry, Outcome, outcome}
+use Rattle.rules.specs.Lists.{Request, format, recover, write, delete, planOf}
+use Rattle.rules.specs.Search.{matches, readOf, searchOf}
+use Rattle.frames.specs.declared.Shape.{Shape}
+use Rattle.frames.specs.declared.State.{State}
+use Rattle.frames.specs.declared.Tail.{Tail}
+use Rattle.frames.specs.declared.Reply.{Reply}
+use Rattle.frames.specs.declared.Frame.{Frame}
+use Rattle.frames.specs.declared.Said.{Said}
+
+-- ---- digits of a line: capital hexadecimal
+abbrev pub isDigit : ℕ → Bool
+isDigit b = (leb 0x30 b && leb b 0x39) || (leb 0x41 b && leb b 0x46)
+
+abbrev pub allDigits : List ℕ → Bool
+allDigits [] = true
+allDigits (b ∷ l) = isDigit b && allDigits l
+
+-- a digit's number
+abbrev pub value : ℕ → ℕ
+value b = cond (leb b 0x39) (b - 0x30) (b - 0x37)
+
+-- the numbers that two, four and eight digits from a place on make
+unfoldable pub two : List ℕ → ℕ → ℕ
+two l i = 16 * value (getD l i 0) + value (getD l (i + 1) 0)
+
+unfoldable pub four : List ℕ → ℕ → ℕ
+four l i = 256 * two l i + two l (i + 2)
+
+unfoldable pub eight : List ℕ → ℕ → ℕ
+eight l i = 65536 * four l i + four l (i + 4)
+
+-- n words from a place on
+abbrev pub wordsFrom : List ℕ → ℕ → ℕ → List ℕ
+wordsFrom l zero i = []
+wordsFrom l (suc n) i = eight l i ∷ wordsFrom l n (i + 8)
+
+-- ---- the frame of a line
+-- whether a write can have so many digits: kind, handle, and 0 to 40 words
+abbrev pub isWrite : ℕ → Bool
+isWrite n = leb 6 n && (leb n 326 && eqb ((n - 6) % 8) 0)
+
+-- by its kind and the number of its digits
+unfoldable pub shaped : ℕ → List ℕ → Frame
+shaped kind l =
+    let n = length l in
+    cond (eqb kind 0x01 && isWrite n) (Frame.Write (four l 2) ((n - 6) / 8))
+    (cond (eqb kind 0x02 && eqb n 6) (Frame.Read (four l 2))
+    (cond (eqb kind 0x03 && eqb n 6) (Frame.Delete (four l 2))
+    (cond (eqb kind 0x04 && eqb n 10) (Frame.List (four l 2) (four l 6))
+    (cond (eqb kind 0x05 && eqb n 2) Frame.Recover
+    (cond (eqb kind 0x06 && eqb n 6) (Frame.Power (four l 2))
+    (cond (eqb kind 0x07 && eqb n 6) (Frame.Format (two l 2) (two l 4)) Frame.Bad))))))
+
+unfoldable pub frameOf : List ℕ → Frame
+frameOf l = cond (leb 2 (length l) && allDigits l) (shaped (two l 0) l) Frame.Bad
+
+-- the words of a write of n words
+unfoldable pub dataOf : List ℕ → ℕ → List ℕ
+dataOf l n = wordsFrom l n 6
+
+-- ---- answers as bytes
+abbrev pub digit : ℕ → ℕ
+digit n = cond (ltb n 10) (0x30 + n) (0x37 + n)
+
+-- the last two, four and eight digits of a number
+unfoldable pub twoDigits : ℕ → List ℕ
+twoDigits n = digit (n / 16 % 16) ∷ digit (n % 16) ∷ []
+
+unfoldable pub fourDigits : ℕ → List ℕ
+fourDigits n = twoDigits (n / 256) ++ twoDigits n
+
+unfoldable pub eightDigits : ℕ → List ℕ
+eightDigits n = fourDigits (n / 65536) ++ fourDigits n
+
+-- numbers one behind the other
+abbrev pub eights : List ℕ → List ℕ
+eights [] = []
+eights (n ∷ ns) = eightDigits n ++ eights ns
+
+abbrev pub fours : List ℕ → List ℕ
+fours [] = []
+fours (n ∷ ns) = fourDigits n ++ fours ns
+
+-- ---- the area, in the first words of the flash
+abbrev pub areaOf : Shape → Area
+areaOf a = record { pages = a .pages; words = wordsOf (a .size) }
+
+unfoldable pub runWords : Shape → ℕ
+runWords a = (a .pages + 1) * wordsOf (a .size)
+
+unfoldable pub runOf : Shape → List ℕ → List ℕ
+runOf a f = take (runWords a) f
+
+-- the flash whose run has become g
+unfoldable pub withRun : Shape → List ℕ → List ℕ → List ℕ
+withRun a f g = g ++ drop (runWords a) f
+
+-- the handles of the live entries that a filter lets through
+abbrev pub handles : ℕ → ℕ → List Entry → List ℕ
+handles mask pattern [] = []
+handles mask pattern (e ∷ es) = cond (matches mask pattern e) (e .handle ∷ handles mask pattern es) (handles mask pattern es)
+
+-- in area order; none if there is no such area
+unfoldable pub listed : Shape → ℕ → ℕ → List ℕ → List ℕ
+listed a mask pattern f = let r = runOf a f in cond (wrongGeometry (areaOf a) r) [] (handles mask pattern (entries (areaOf a) r))
+
+-- ---- an answer line
+abbrev pub tailBytes : Tail → List ℕ → List ℕ
+tailBytes Tail.Nothing f = []
+tailBytes (Tail.Words p n) f = eights (take n (drop (suc p) f))
+tailBytes (Tail.Handles a mask pattern) f = fours (listed a mask pattern f)
+
+abbrev pub newline : ℕ
+newline = 0x0A
+
+-- number, stores, and what comes behind
+unfoldable pub bytes : Reply → List ℕ → List ℕ
+bytes r f = twoDigits (r .number) ++ (fourDigits (r .stores) ++ (tailBytes (r .tail) f ++ newline ∷ []))
+
+-- ---- what a frame does
+pub record Carried : Type 0 where
+  pub state : State
+  pub reply : Reply
+  pub flash : List ℕ
+
+abbrev pub plain : ℕ → ℕ → Reply
+plain n stores = record { number = n; stores = stores; tail = Tail.Nothing }
+
+abbrev pub badFrame : ℕ
+badFrame = 0x0A
+
+abbrev pub enough : ℕ
+enough = 0xFFFFFFFF
+
+-- before the first format there is an area of no pages, on which every request is refused as GEOMETRY
+abbrev pub start : State
+start = record { shape = record { pages = 0; size = Small }; power = enough }
+
+-- no store made, state and flash as they were
+abbrev pub told : State → List ℕ → Reply → Carried
+told s f r = record { state = s; reply = r; flash = f }
+
+-- read: its words
+abbrev pub readReply : Reading → Reply
+readReply (Reading.At p n) = record { number = 0x00; stores = 0; tail = Tail.Words p n }
+readReply (Reading.Refused n) = plain (refusalNumber n) 0
+
+-- list: what a search from 0 gives, but the handles of all its matches
+abbrev pub listReply : Shape → ℕ → ℕ → Yielded → Reply
+listReply a mask pattern (Yielded.At p) = record { number = 0x00; stores = 0; tail = Tail.Handles a mask pattern }
+listReply a mask pattern (Yielded.Refused n) = plain (refusalNumber n) 0
+
+-- write, delete, recover: with the power named for it, which is then spent
+abbrev pub stored : State → List ℕ → Request → Carried
+stored s f r =
+    let a = s .shape in
+    let o = outcome (planOf (areaOf a) r) (s .power) (runOf a f) in
+    record { state = record { shape = a; power = enough }; reply = plain (answerNumber (o .answer)) (answerStores (o .answer)); flash = withRun a f (o .flash) }
+
+-- format: with power enough; what is refused changes nothing
+abbrev pub sizeNamed : ℕ → PageSize
+sizeNamed n = cond (eqb n 0x00) Small (cond (eqb n 0x01) Medium Large)
+
+abbrev pub shapeAfter : Shape → Shape → Answer → Shape
+shapeAfter old new (Answer.Done n) = new
+shapeAfter old new (Answer.Cut n) = old
+shapeAfter old new (Answer.Refused n) = old
+
+abbrev pub formatted : State → List ℕ → Shape → Carried
+formatted s f a =
+    let o = outcome (planOf (areaOf a) format) enough (runOf a f) in
+    record {
+      state = record { shape = shapeAfter (s .shape) a (o .answer); power = s .power };
+      reply = plain (answerNumber (o .answer)) (answerStores (o .answer));
+      flash = withRun a f (o .flash);
+    }
+
+abbrev pub isFormat : ℕ → ℕ → Bool
+isFormat n size = leb 1 n && (leb n 15 && leb size 2)
+
+-- of each kind
+abbrev pub carriedBy : State → List ℕ → List ℕ → Frame → Carried
+carriedBy s f l (Frame.Write h n) = stored s f (write h (dataOf l n))
+carriedBy s f l (Frame.Read h) = told s f (readReply (readOf (areaOf (s .shape)) h (runOf (s .shape) f)))
+carriedBy s f l (Frame.Delete h) = stored s f (delete h)
+carriedBy s f l (Frame.List mask pattern) = told s f (listReply (s .shape) mask pattern (searchOf (areaOf (s .shape)) mask pattern 0 (runOf (s .shape) f)))
+carriedBy s f l Frame.Recover = stored s f recover
+carriedBy s f l (Frame.Power k) = told (record { shape = s .shape; power = k }) f (plain 0x00 0)
+carriedBy s f l (Frame.Format n size) = cond (isFormat n size) (formatted s f (record { pages = n; size = sizeNamed size })) (told s f (plain (refusalNumber Geometry) 0))
+carriedBy s f l Frame.Bad = told s f (plain badFrame 0)
+
+-- a line, in a state and with a flash
+unfoldable pub carried : State → List ℕ → List ℕ → Carried
+carried s f l = carriedBy s f l (frameOf l)
+
+-- ---- an answer, piece by piece
+-- the bytes of a text that a buffer of so many bytes has room for, from one on
+abbrev pub pieceOf : List ℕ → ℕ → ℕ → List ℕ
+pieceOf t from room = take room (drop from t)
+
+-- of a text t from a byte on: these are put at the start of the buffer f, which is g then, and they are counted
+pub record Says (t : List ℕ) (from : ℕ) (f : List ℕ) (r : Said) (g : List ℕ) : Type 0 where
+  pub count : r .count ≡ length (pieceOf t from (length f))
+  pub more : r .more ≡ ltb (length f) (length (drop from t))
+  pub buffer : g ≡ pieceOf t from (length f) ++ drop (r .count) f
