@@ -60,13 +60,13 @@ isWrite n = leb 6 n && (leb n 326 && eqb ((n - 6) % 8) 0)
 unfoldable pub shaped : ℕ → List ℕ → Frame
 shaped kind l =
     let n = length l in
-    cond (eqb kind 0x01 && isWrite n) (Frame.Write (four l 2) ((n - 6) / 8))
-    (cond (eqb kind 0x02 && eqb n 6) (Frame.Read (four l 2))
-    (cond (eqb kind 0x03 && eqb n 6) (Frame.Delete (four l 2))
-    (cond (eqb kind 0x04 && eqb n 10) (Frame.List (four l 2) (four l 6))
-    (cond (eqb kind 0x05 && eqb n 2) Frame.Recover
-    (cond (eqb kind 0x06 && eqb n 6) (Frame.Power (four l 2))
-    (cond (eqb kind 0x07 && eqb n 6) (Frame.Format (two l 2) (two l 4)) Frame.Bad))))))
+    cond (eqb kind 0x01) (cond (isWrite n) (Frame.Write (four l 2) ((n - 6) / 8)) Frame.Bad)
+    (cond (eqb kind 0x02) (cond (eqb n 6) (Frame.Read (four l 2)) Frame.Bad)
+    (cond (eqb kind 0x03) (cond (eqb n 6) (Frame.Delete (four l 2)) Frame.Bad)
+    (cond (eqb kind 0x04) (cond (eqb n 10) (Frame.List (four l 2) (four l 6)) Frame.Bad)
+    (cond (eqb kind 0x05) (cond (eqb n 2) Frame.Recover Frame.Bad)
+    (cond (eqb kind 0x06) (cond (eqb n 6) (Frame.Power (four l 2)) Frame.Bad)
+    (cond (eqb kind 0x07) (cond (eqb n 6) (Frame.Format (two l 2) (two l 4)) Frame.Bad) Frame.Bad))))))
 
 unfoldable pub frameOf : List ℕ → Frame
 frameOf l = cond (leb 2 (length l) && allDigits l) (shaped (two l 0) l) Frame.Bad

@@ -8,6 +8,8 @@
 // An answer may be longer than the buffer that is lent for it. `answer` carries a line out and puts
 // the first bytes of its answer into the buffer; where it says that there are more, `say` gives them
 // piece by piece from the reply, as long as no other line is carried out in between.
+mod line;
+
 ghost use mathlib.Core.Path.{_≡_};
 use rules::PageSize;
 

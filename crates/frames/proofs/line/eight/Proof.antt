@@ -1,0 +1,28 @@
+-- `eight` reads four digits and four. Assumes nothing.
+use borrow.Author.Needs.{needs}
+use Rattle.frames.specs.Lines.{numbers}
+use borrow.Author.Needs.{needs}
+use Rattle.frames.proofs.line.eight.Statement.{statement}
+use Rattle.frames.proofs.line.eight.Tie as tie
+
+four-requires : tie.Need-four-requires
+four-requires c κs = search needs
+
+add-four : tie.Need-add-four
+add-four c = search needs
+
+four-requires-2 : tie.Need-four-requires-2
+four-requires-2 c κs = search needs
+
+mul-result : tie.Need-mul-result
+mul-result c = search needs
+
+add-result : tie.Need-add-result
+add-result c = search needs
+
+returns : tie.Need-returns
+returns c = search (needs, numbers)
+
+pub eight-spec : {M : Type 1} → statement M
+eight-spec =
+    tie.close (tie.spec four-requires add-four four-requires-2 mul-result add-result returns)
