@@ -9,6 +9,9 @@
 // the first bytes of its answer into the buffer; where it says that there are more, `say` gives them
 // piece by piece from the reply, as long as no other line is carried out in between.
 ghost use mathlib.Core.Path.{_≡_};
+
+mod shapes;
+
 use rules::PageSize;
 
 // The power of a frame that none was named for: more than any list of stores needs.
