@@ -11,6 +11,9 @@
 mod line;
 
 ghost use mathlib.Core.Path.{_≡_};
+
+mod shapes;
+
 use rules::PageSize;
 
 // The power of a frame that none was named for: more than any list of stores needs.
