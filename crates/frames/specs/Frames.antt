@@ -162,10 +162,16 @@ abbrev pub readReply : Reading → Reply
 readReply (Reading.At p n) = record { number = 0x00; stores = 0; tail = Tail.Words p n }
 readReply (Reading.Refused n) = plain (refusalNumber n) 0
 
+abbrev pub readFrame : State → List ℕ → ℕ → Carried
+readFrame s f h = told s f (readReply (readOf (areaOf (s .shape)) h (runOf (s .shape) f)))
+
 -- list: what a search from 0 gives, but the handles of all its matches
 abbrev pub listReply : Shape → ℕ → ℕ → Yielded → Reply
 listReply a mask pattern (Yielded.At p) = record { number = 0x00; stores = 0; tail = Tail.Handles a mask pattern }
 listReply a mask pattern (Yielded.Refused n) = plain (refusalNumber n) 0
+
+abbrev pub listFrame : State → List ℕ → ℕ → ℕ → Carried
+listFrame s f mask pattern = told s f (listReply (s .shape) mask pattern (searchOf (areaOf (s .shape)) mask pattern 0 (runOf (s .shape) f)))
 
 -- write, delete, recover: with the power named for it, which is then spent
 abbrev pub stored : State → List ℕ → Request → Carried
@@ -192,18 +198,22 @@ formatted s f a =
       flash = withRun a f (o .flash);
     }
 
-abbrev pub isFormat : ℕ → ℕ → Bool
-isFormat n size = leb 1 n && (leb n 15 && leb size 2)
+-- whether there are no such areas on the console
+abbrev pub noFormat : ℕ → ℕ → Bool
+noFormat n size = ltb n 1 || (ltb 15 n || ltb 2 size)
+
+abbrev pub formatFrame : State → List ℕ → ℕ → ℕ → Carried
+formatFrame s f n size = cond (noFormat n size) (told s f (plain (refusalNumber Geometry) 0)) (formatted s f (record { pages = n; size = sizeNamed size }))
 
 -- of each kind
 abbrev pub carriedBy : State → List ℕ → List ℕ → Frame → Carried
 carriedBy s f l (Frame.Write h n) = stored s f (write h (dataOf l n))
-carriedBy s f l (Frame.Read h) = told s f (readReply (readOf (areaOf (s .shape)) h (runOf (s .shape) f)))
+carriedBy s f l (Frame.Read h) = readFrame s f h
 carriedBy s f l (Frame.Delete h) = stored s f (delete h)
-carriedBy s f l (Frame.List mask pattern) = told s f (listReply (s .shape) mask pattern (searchOf (areaOf (s .shape)) mask pattern 0 (runOf (s .shape) f)))
+carriedBy s f l (Frame.List mask pattern) = listFrame s f mask pattern
 carriedBy s f l Frame.Recover = stored s f recover
 carriedBy s f l (Frame.Power k) = told (record { shape = s .shape; power = k }) f (plain 0x00 0)
-carriedBy s f l (Frame.Format n size) = cond (isFormat n size) (formatted s f (record { pages = n; size = sizeNamed size })) (told s f (plain (refusalNumber Geometry) 0))
+carriedBy s f l (Frame.Format n size) = formatFrame s f n size
 carriedBy s f l Frame.Bad = told s f (plain badFrame 0)
 
 -- a line, in a state and with a flash

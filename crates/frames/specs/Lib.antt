@@ -1,3 +1,5 @@
 pub mod Frames
 pub mod Lines
 pub mod Shapes
+pub mod Requests
+pub mod Carrying

@@ -1,14 +1,14 @@
 -- A line's digits, the numbers they make and the frame of a line, as they are read from place to place: laws. Assumes nothing.
 use mathlib.Core.Path.{_≡_, refl, sym, ap, _∙_}
 use mathlib.Core.List.{List, [], _∷_, _++_, append-assoc}
-use mathlib.Core.Bool.{Bool, true, false, cond, _&&_, _||_}
+use mathlib.Core.Bool.{Bool, true, false, cond, _&&_, _||_, true≢false}
 use mathlib.Core.Logic.{_⊎_, inl, inr, ⊎-elim}
 use Prim.Native.Nat.{ℕ, suc, zero, _+_, _-_, _*_, _/_, _%_, _≤_, _<_}
 use native.Mathlib.Omega.{arith}
 use native.Mathlib.Numerals.{add-one}
-use lib.ListN.{length, getD, drop, set, drop-of-length-le}
+use lib.ListN.{length, getD, take, drop, set, length-append, drop-of-length-le}
 use lib.Dec.{leb, eqb}
-use lib.Seq.{drop-cons, set-at}
+use lib.Seq.{drop-cons, set-at, take-at}
 use borrow.Author.Tests.{leb-true, leb-false, le-leb, lt-leb, ne-eqb, not-true, not-false}
 use Rattle.rules.specs.Laws.{and-left, and-right}
 use Rattle.frames.specs.declared.Frame.{Frame}
@@ -231,3 +231,90 @@ module _ {l v : List ℕ} {n i : ℕ} {w : List ℕ} (f : Filling l v n i w) whe
   filling-end h = let d = f .done in let e : i ≡ n = omega arith in rw e at (f .same)
 
 pub ruleset fillings = (filling-start, filling-on, filling-end)
+
+-- ---- of a line that is a write: its bytes are digits, and so many words are in it
+abbrev isWriteFrame : Frame → Bool
+isWriteFrame (Frame.Write h n) = true
+isWriteFrame (Frame.Read h) = false
+isWriteFrame (Frame.Delete h) = false
+isWriteFrame (Frame.List mask pattern) = false
+isWriteFrame Frame.Recover = false
+isWriteFrame (Frame.Power k) = false
+isWriteFrame (Frame.Format n size) = false
+isWriteFrame Frame.Bad = false
+
+neither : (b : Bool) (x y : Frame) → isWriteFrame x ≡ false → isWriteFrame y ≡ false → isWriteFrame (cond b x y) ≡ false
+neither true x y p q = p
+neither false x y p q = q
+
+abbrev Writes : List ℕ → ℕ → Type 0
+Writes l n = (allDigits l ≡ true) × (6 + 8 * n ≤ length l) × (n ≤ 40)
+
+module _ (l : List ℕ) where
+  -- the frames of the other kinds
+  abbrev others : ℕ → Frame
+  others k =
+      let m = length l in
+      cond (eqb k 0x02) (cond (eqb m 6) (Frame.Read (four l 2)) Frame.Bad)
+      (cond (eqb k 0x03) (cond (eqb m 6) (Frame.Delete (four l 2)) Frame.Bad)
+      (cond (eqb k 0x04) (cond (eqb m 10) (Frame.List (four l 2) (four l 6)) Frame.Bad)
+      (cond (eqb k 0x05) (cond (eqb m 2) Frame.Recover Frame.Bad)
+      (cond (eqb k 0x06) (cond (eqb m 6) (Frame.Power (four l 2)) Frame.Bad)
+      (cond (eqb k 0x07) (cond (eqb m 6) (Frame.Format (two l 2) (two l 4)) Frame.Bad) Frame.Bad)))))
+
+  others-none : (k : ℕ) → isWriteFrame (others k) ≡ false
+  others-none k =
+      let m = length l in
+      neither (eqb k 0x02) _ _ (neither (eqb m 6) _ _ refl refl)
+      (neither (eqb k 0x03) _ _ (neither (eqb m 6) _ _ refl refl)
+      (neither (eqb k 0x04) _ _ (neither (eqb m 10) _ _ refl refl)
+      (neither (eqb k 0x05) _ _ (neither (eqb m 2) _ _ refl refl)
+      (neither (eqb k 0x06) _ _ (neither (eqb m 6) _ _ refl refl)
+      (neither (eqb k 0x07) _ _ (neither (eqb m 6) _ _ refl refl) refl)))))
+
+  by-kind : (k : ℕ) → shaped k l ≡ cond (eqb k 0x01) (cond (isWrite (length l)) (Frame.Write (four l 2) ((length l - 6) / 8)) Frame.Bad) (others k)
+  unfolding shaped
+  by-kind k = refl
+
+module _ (l : List ℕ) {h n : ℕ} where
+  write-inside : allDigits l ≡ true → isWrite (length l) ≡ true → Frame.Write (four l 2) ((length l - 6) / 8) ≡ Frame.Write h n → Writes l n
+  write-inside d t q =
+      let k = length l in
+      let m : (k - 6) / 8 ≡ n = cc in
+      let g : 6 ≤ k = leb-true 6 k (and-left (leb 6 k) (leb k 326 && eqb ((k - 6) % 8) 0) t) in
+      let u : k ≤ 326 = leb-true k 326 (and-left (leb k 326) (eqb ((k - 6) % 8) 0) (and-right (leb 6 k) (leb k 326 && eqb ((k - 6) % 8) 0) t)) in
+      (d, omega arith, omega arith)
+
+  write-shaped : (k : ℕ) → allDigits l ≡ true → shaped k l ≡ Frame.Write h n → Writes l n
+  write-shaped k d q = go (eqb k 0x01) (isWrite (length l)) refl (sym (by-kind l k) ∙ q)
+    where
+      go : (b w : Bool) → isWrite (length l) ≡ w → cond b (cond w (Frame.Write (four l 2) ((length l - 6) / 8)) Frame.Bad) (others l k) ≡ Frame.Write h n → Writes l n
+      go true true t e = write-inside d t e
+      go true false t e = absurd (true≢false (sym (ap isWriteFrame e)))
+      go false w t e = absurd (true≢false (sym (ap isWriteFrame e) ∙ others-none l k))
+
+  written : frameOf l ≡ Frame.Write h n → Writes l n
+  unfolding frameOf
+  written q = go (leb 2 (length l) && allDigits l) refl q
+    where
+      go : (b : Bool) → leb 2 (length l) && allDigits l ≡ b → cond b (shaped (two l 0) l) Frame.Bad ≡ Frame.Write h n → Writes l n
+      go true t e = write-shaped (two l 0) (and-right (leb 2 (length l)) (allDigits l) t) e
+      go false t e = absurd (true≢false (sym (ap isWriteFrame e)))
+
+  pub written-digits : frameOf l ≡ Frame.Write h n → allDigits l ≡ true
+  written-digits q = written q .0
+
+  pub written-fits : frameOf l ≡ Frame.Write h n → 6 + 8 * n ≤ length l
+  written-fits q = written q .1
+
+  pub written-few : frameOf l ≡ Frame.Write h n → n ≤ 40
+  written-few q = written q .2
+
+-- the words that were put are the first of the buffer
+pub words-put : {w : List ℕ} (l v : List ℕ) (n : ℕ) → w ≡ dataOf l n ++ v → take n w ≡ dataOf l n
+unfolding dataOf
+words-put {w} l v n e = ap (take n) e ∙ take-at (wordsFrom l n 6) v n (words-length l n 6)
+
+pub words-room : {w : List ℕ} (l v : List ℕ) (n : ℕ) → w ≡ dataOf l n ++ v → n ≤ length w
+unfolding dataOf
+words-room {w} l v n e = omega (arith, ap length e, length-append (wordsFrom l n 6) v, words-length l n 6)

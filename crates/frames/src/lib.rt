@@ -8,10 +8,9 @@
 // An answer may be longer than the buffer that is lent for it. `answer` carries a line out and puts
 // the first bytes of its answer into the buffer; where it says that there are more, `say` gives them
 // piece by piece from the reply, as long as no other line is carried out in between.
+mod carrying;
 mod line;
-
-ghost use mathlib.Core.Path.{_≡_};
-
+mod requests;
 mod shapes;
 
 use rules::PageSize;

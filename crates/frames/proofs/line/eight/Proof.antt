@@ -1,7 +1,6 @@
 -- `eight` reads four digits and four. Assumes nothing.
 use borrow.Author.Needs.{needs}
 use Rattle.frames.specs.Lines.{numbers}
-use borrow.Author.Needs.{needs}
 use Rattle.frames.proofs.line.eight.Statement.{statement}
 use Rattle.frames.proofs.line.eight.Tie as tie
 

@@ -1,7 +1,6 @@
 -- `four` reads two digits and two. Assumes nothing.
 use borrow.Author.Needs.{needs}
 use Rattle.frames.specs.Lines.{numbers}
-use borrow.Author.Needs.{needs}
 use Rattle.frames.proofs.line.four.Statement.{statement}
 use Rattle.frames.proofs.line.four.Tie as tie
 

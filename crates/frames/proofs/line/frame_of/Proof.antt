@@ -1,7 +1,6 @@
 -- `frame_of` looks at the digits, and then at the kind. Assumes nothing.
 use borrow.Author.Needs.{needs}
 use Rattle.frames.specs.Lines.{frames}
-use borrow.Author.Needs.{needs}
 use Rattle.frames.proofs.line.frame_of.Statement.{statement}
 use Rattle.frames.proofs.line.frame_of.Tie as tie
 

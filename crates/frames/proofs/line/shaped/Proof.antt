@@ -1,7 +1,6 @@
 -- `shaped` asks for the kind, and then for the number of digits. Assumes nothing.
 use borrow.Author.Needs.{needs}
 use Rattle.frames.specs.Lines.{shapes}
-use borrow.Author.Needs.{needs}
 use Rattle.frames.proofs.line.shaped.Statement.{statement}
 use Rattle.frames.proofs.line.shaped.Tie as tie
 

@@ -1,7 +1,6 @@
 -- `six` asks for each kind in turn. Assumes nothing.
 use borrow.Author.Needs.{needs}
 use Rattle.frames.specs.Lines.{sixes}
-use borrow.Author.Needs.{needs}
 use Rattle.frames.proofs.line.six.Statement.{statement}
 use Rattle.frames.proofs.line.six.Tie as tie
 

@@ -1,7 +1,6 @@
 -- `two` reads two digits. Assumes nothing.
 use borrow.Author.Needs.{needs}
 use Rattle.frames.specs.Lines.{numbers}
-use borrow.Author.Needs.{needs}
 use Rattle.frames.proofs.line.two.Statement.{statement}
 use Rattle.frames.proofs.line.two.Tie as tie
 

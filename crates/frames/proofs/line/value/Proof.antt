@@ -1,7 +1,6 @@
 -- `value` tells digits from letters. Assumes nothing.
 use borrow.Author.Needs.{needs}
 use Rattle.frames.specs.Lines.{values}
-use borrow.Author.Needs.{needs}
 use Rattle.frames.proofs.line.value.Statement.{statement}
 use Rattle.frames.proofs.line.value.Tie as tie
 

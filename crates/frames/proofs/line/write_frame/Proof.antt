@@ -1,7 +1,6 @@
 -- `write_frame` asks for the number of digits. Assumes nothing.
 use borrow.Author.Needs.{needs}
 use Rattle.frames.specs.Lines.{writeFrames}
-use borrow.Author.Needs.{needs}
 use Rattle.frames.proofs.line.write_frame.Statement.{statement}
 use Rattle.frames.proofs.line.write_frame.Tie as tie
 
