@@ -1,2 +1,3 @@
 pub mod Frames
 pub mod Shapes
+pub mod Saying

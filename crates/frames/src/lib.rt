@@ -10,6 +10,7 @@
 // piece by piece from the reply, as long as no other line is carried out in between.
 ghost use mathlib.Core.Path.{_≡_};
 
+mod saying;
 mod shapes;
 
 use rules::PageSize;
