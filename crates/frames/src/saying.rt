@@ -4,8 +4,9 @@
 // geometry. Only the buffer is changed.
 ghost use mathlib.Core.List.{[], _∷_};
 ghost use mathlib.Core.Path.{_≡_};
-ghost use Prim.Native.Nat.{_%_};
-ghost use Rattle.frames.specs.Frames.{digit, twoDigits, fourDigits, eightDigits};
+ghost use Prim.Native.Nat.{suc, min, _%_};
+ghost use lib.ListN.{take, drop};
+ghost use Rattle.frames.specs.Frames.{digit, twoDigits, fourDigits, eightDigits, eights};
 ghost use Rattle.frames.specs.Saying.{Wrote};
 
 // A pen over a lent buffer: so many bytes of the text are still to be passed over, so many bytes of
@@ -73,4 +74,37 @@ fn eight_digits(out: &mut [u8], word: u32, pen: Pen) -> Pen
 {
     let next = four_digits(out, word / 65536, pen);
     four_digits(out, word, next)
+}
+
+// Writes all words of a list.
+fn words(out: &mut [u8], list: &[u32], pen: Pen) -> Pen
+    ensures { λ r. ⌜ Wrote (eights (now (list .entry))) pen (now (out .entry)) r (now (out .exit)) ⌝ }
+{
+    let mut p = pen;
+    let mut i: usize = 0;
+    while i < list.len() {
+        let word = list[i];
+        p = eight_digits(out, word, p);
+        i += 1;
+    }
+    p
+}
+
+// The lesser of two numbers.
+fn least(x: usize, y: usize) -> usize
+    ensures { λ r. ⌜ r ≡ min x y ⌝ }
+{
+    if x < y { x } else { y }
+}
+
+// So many words of the flash behind a place, or those that it has.
+fn part_of(flash: &[u32], place: usize, words: usize) -> &[u32]
+    ensures { λ r. ⌜ now r ≡ take words (drop (suc place) (now (flash .entry))) ⌝ }
+{
+    if flash.len() <= place {
+        return &flash[..0];
+    }
+    let start = place + 1;
+    let end = start + least(words, flash.len() - start);
+    &flash[start..end]
 }
