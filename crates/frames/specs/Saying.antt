@@ -2,19 +2,26 @@
 -- what was written is the piece of the text that the buffer has room for. Assumes nothing.
 use mathlib.Core.Path.{_≡_, refl, ap, sym, _∙_}
 use mathlib.Core.List.{List, [], _∷_, _++_, append-assoc}
-use mathlib.Core.Bool.{Bool, true, false, cond, _||_, or-true, or-false}
+use mathlib.Core.Bool.{Bool, true, false, cond, _&&_, _||_, or-true, or-false}
 use mathlib.Core.Logic.{⊎-elim}
 use Prim.Native.Nat.{ℕ, suc, zero, _+_, _-_, _/_, _%_, _≤_, _<_, zero-le, min}
 use native.Mathlib.Omega.{arith}
 use native.Mathlib.Numerals.{add-one}
 use lib.ListN.{length, getD, take, drop, set, length-set, length-drop, take-append-drop, drop-of-length-le}
 use lib.Seq.{take-all, take-nil, drop-nil, drop-cons, take-suc-set, drop-set-lt}
-use lib.Dec.{ltb}
+use lib.Bits.{bitAnd}
+use lib.Dec.{ltb, eqb}
 use borrow.Author.Tests.{lt-ltb, le-ltb}
 use Rattle.flash.specs.Laws.{le-or-lt}
+use Rattle.rules.specs.declared.Area.{Area}
+use Rattle.rules.specs.Words.{handleOf, isLive}
+use Rattle.rules.specs.Areas.{Entry, entries}
+use Rattle.rules.specs.Search.{matches}
+use Rattle.entries.specs.declared.Cursor.{Cursor}
+use Rattle.entries.specs.Ahead.{ahead, behind, entryOf, Sound, Settled, ahead-on, ahead-end, fewer}
 use Rattle.frames.specs.declared.Said.{Said}
 use Rattle.frames.specs.declared.saying.Pen.{Pen}
-use Rattle.frames.specs.Frames.{digit, twoDigits, fourDigits, eightDigits, eights, pieceOf, Says}
+use Rattle.frames.specs.Frames.{digit, twoDigits, fourDigits, eightDigits, eights, fours, handles, pieceOf, Says}
 
 -- ---- a pen on its buffer
 pub record Sheet : Type 0 where
@@ -151,6 +158,51 @@ module _ {ws : List ℕ} {i : ℕ} {p₀ p : Pen} {f₀ f : List ℕ} (u : Words
   words-end h = let d : drop i ws ≡ [] = drop-of-length-le ws h in writing-end (rw d at (u .writing))
 
 pub ruleset lists = (words-start, words-on, words-end)
+
+-- ---- handles
+-- four digits, if they are wanted
+unfoldable pub fourIf : Bool → ℕ → List ℕ
+fourIf b n = cond b (fourDigits n) []
+
+pub four-wanted : {b : Bool} (n : ℕ) {p q : Pen} {f g : List ℕ} → Wrote (fourDigits n) p f q g → b ≡ true → Wrote (fourIf b n) p f q g
+unfolding fourIf
+four-wanted n w e = rw e w
+
+pub four-unwanted : {b : Bool} (n : ℕ) {p : Pen} {f : List ℕ} → b ≡ false → Wrote (fourIf b n) p f p f
+unfolding fourIf
+four-unwanted n e = rw e wrote-none
+
+fours-cons : (mask pattern : ℕ) (e : Entry) (es : List Entry)
+    → fours (handles mask pattern (e ∷ es)) ≡ fourIf (matches mask pattern e) (e .handle) ++ fours (handles mask pattern es)
+unfolding fourIf
+fours-cons mask pattern e es = go (matches mask pattern e)
+  where
+    go : (b : Bool) → fours (cond b (e .handle ∷ handles mask pattern es) (handles mask pattern es)) ≡ cond b (fourDigits (e .handle)) [] ++ fours (handles mask pattern es)
+    go true = refl
+    go false = refl
+
+-- those of the entries from a cursor on are left
+pub record HandlesLeft (mask pattern : ℕ) (a : Area) (f : List ℕ) (p₀ : Pen) (o₀ : List ℕ) (c : Cursor) (p : Pen) (o : List ℕ) : Type 0 where
+  pub sound : Sound a f c
+  pub writing : Writing (fours (handles mask pattern (entries a f))) p₀ o₀ (fours (handles mask pattern (ahead a f c))) p o
+
+pub handles-start : {mask pattern : ℕ} {a : Area} {f : List ℕ} {c : Cursor} {p : Pen} {o : List ℕ} → Settled a f (entries a f) c → HandlesLeft mask pattern a f p o c p o
+handles-start s = record { sound = s .sound; writing = rw (s .same) writing-start }
+
+module _ {mask pattern : ℕ} {a : Area} {f : List ℕ} {p₀ p : Pen} {o₀ o : List ℕ} {c : Cursor} (u : HandlesLeft mask pattern a f p₀ o₀ c p o) where
+  pub handles-on : {d : Cursor} {q : Pen} {g : List ℕ} {b : Bool} {k : ℕ} → Settled a f (behind a f c) d → Wrote (fourIf b k) p o q g → (c .length ≡ 0 → ⊥)
+      → k ≡ handleOf (getD f (c .place) 0) → b ≡ isLive k && eqb (bitAnd k mask) (bitAnd pattern mask) → HandlesLeft mask pattern a f p₀ o₀ d q g
+  unfolding entryOf
+  handles-on {b = b} {k} s w z e q =
+      let m : matches mask pattern (entryOf f c) ≡ b = rw (q, e) in
+      let x : fours (handles mask pattern (ahead a f c)) ≡ fourIf b k ++ fours (handles mask pattern (behind a f c)) =
+      ap (λ (es : List Entry). fours (handles mask pattern es)) (ahead-on (u .sound) z) ∙ fours-cons mask pattern (entryOf f c) (behind a f c) ∙ rw (m, ← e) in
+      record { sound = s .sound; writing = rw (s .same) (writing-on (fourIf b k) (fours (handles mask pattern (behind a f c))) (rw x at (u .writing)) w) }
+
+  pub handles-end : c .length ≡ 0 → Wrote (fours (handles mask pattern (entries a f))) p₀ o₀ p o
+  handles-end z = let x : ahead a f c ≡ [] = ahead-end (u .sound) z in writing-end (rw x at (u .writing))
+
+pub ruleset listings = (fewer, four-wanted, four-unwanted, handles-start, handles-on, handles-end)
 
 -- ---- words behind a place of the flash
 module _ (f : List ℕ) (place words : ℕ) where

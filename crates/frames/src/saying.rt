@@ -6,8 +6,11 @@ ghost use mathlib.Core.List.{[], _∷_};
 ghost use mathlib.Core.Path.{_≡_};
 ghost use Prim.Native.Nat.{suc, min, _%_};
 ghost use lib.ListN.{take, drop};
-ghost use Rattle.frames.specs.Frames.{digit, twoDigits, fourDigits, eightDigits, eights};
-ghost use Rattle.frames.specs.Saying.{Wrote};
+ghost use Rattle.rules.specs.Areas.{entries};
+ghost use Rattle.rules.specs.Places.{Right};
+ghost use Rattle.frames.specs.Frames.{digit, twoDigits, fourDigits, eightDigits, eights, fours, handles};
+ghost use Rattle.frames.specs.Saying.{Wrote, fourIf};
+use rules::Area;
 
 // A pen over a lent buffer: so many bytes of the text are still to be passed over, so many bytes of
 // the buffer are written, and whether a byte has been left out at the buffer's end.
@@ -107,4 +110,31 @@ fn part_of(flash: &[u32], place: usize, words: usize) -> &[u32]
     let start = place + 1;
     let end = start + least(words, flash.len() - start);
     &flash[start..end]
+}
+
+// Writes four digits of a number, if they are wanted.
+fn four_if(out: &mut [u8], wanted: bool, number: u32, pen: Pen) -> Pen
+    ensures { λ r. ⌜ Wrote (fourIf wanted number) pen (now (out .entry)) r (now (out .exit)) ⌝ }
+{
+    if wanted {
+        return four_digits(out, number, pen);
+    }
+    pen
+}
+
+// Writes the handles in an area that a filter lets through, in area order.
+fn handles(out: &mut [u8], flash: &[u32], area: Area, mask: u32, pattern: u32, pen: Pen) -> Pen
+    requires { ⌜ Right area (now flash) ⌝ }
+    ensures { λ r. ⌜ Wrote (fours (handles mask pattern (entries area (now (flash .entry))))) pen (now (out .entry)) r (now (out .exit)) ⌝ }
+{
+    let mut p = pen;
+    let mut cursor = entries::first(flash, area);
+    while cursor.length != 0 {
+        let place = cursor.place;
+        let handle = pages::handle_of(flash[place]);
+        let wanted = entries::passes(handle, mask, pattern);
+        p = four_if(out, wanted, handle, p);
+        cursor = entries::after(flash, area, cursor);
+    }
+    p
 }
