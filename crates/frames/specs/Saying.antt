@@ -16,12 +16,18 @@ use Rattle.flash.specs.Laws.{le-or-lt}
 use Rattle.rules.specs.declared.Area.{Area}
 use Rattle.rules.specs.Words.{handleOf, isLive}
 use Rattle.rules.specs.Areas.{Entry, entries}
+use Rattle.rules.specs.Refusals.{wrongGeometry}
 use Rattle.rules.specs.Search.{matches}
 use Rattle.entries.specs.declared.Cursor.{Cursor}
 use Rattle.entries.specs.Ahead.{ahead, behind, entryOf, Sound, Settled, ahead-on, ahead-end, fewer}
+use Rattle.area.specs.Checks.{geometry-right}
+use Rattle.frames.specs.declared.Shape.{Shape}
+use Rattle.frames.specs.declared.Tail.{Tail}
+use Rattle.frames.specs.declared.Reply.{Reply}
 use Rattle.frames.specs.declared.Said.{Said}
 use Rattle.frames.specs.declared.saying.Pen.{Pen}
-use Rattle.frames.specs.Frames.{digit, twoDigits, fourDigits, eightDigits, eights, fours, handles, pieceOf, Says}
+use Rattle.frames.specs.Frames.{digit, twoDigits, fourDigits, eightDigits, eights, areaOf, fours, handles, listed, tailBytes, newline, bytes, pieceOf, Says}
+use Rattle.frames.specs.Shapes.{RunEnd}
 
 -- ---- a pen on its buffer
 pub record Sheet : Type 0 where
@@ -227,6 +233,32 @@ module _ (f : List ℕ) (place words : ℕ) where
 
 pub ruleset parts = (part-none, part-cut)
 
+-- ---- the tail of an answer
+-- the handles of a shape's area, by what a function has found of its run
+module _ {a : Shape} {f run : List ℕ} {end : ℕ} {area : Area} {b : Bool} (mask pattern : ℕ) (e : RunEnd a f end) (cut : run ≡ take end f) (is : area ≡ areaOf a)
+    (q : b ≡ wrongGeometry area run) where
+  by-run : listed a mask pattern f ≡ cond b [] (handles mask pattern (entries area run))
+  unfolding listed
+  by-run = rw (q, is, cut, e .run)
+
+  pub listed-none : {p : Pen} {o : List ℕ} → b ≡ true → Wrote (fours (listed a mask pattern f)) p o p o
+  listed-none t = rw (by-run, t) wrote-none
+
+  pub listed-all : {p r : Pen} {o g : List ℕ} → b ≡ false → Wrote (fours (handles mask pattern (entries area run))) p o r g → Wrote (fours (listed a mask pattern f)) p o r g
+  listed-all t w = rw (by-run, t) w
+
+module _ {t : Tail} (f : List ℕ) {p : Pen} {o : List ℕ} where
+  pub tail-nothing : t ≡ Tail.Nothing → Wrote (tailBytes t f) p o p o
+  tail-nothing e = rw e wrote-none
+
+  pub tail-words : {place n : ℕ} {ws : List ℕ} {q : Pen} {g : List ℕ} → t ≡ Tail.Words place n → ws ≡ take n (drop (suc place) f) → Wrote (eights ws) p o q g → Wrote (tailBytes t f) p o q g
+  tail-words e d w = rw (e, ← d) w
+
+  pub tail-handles : {a : Shape} {mask pattern : ℕ} {q : Pen} {g : List ℕ} → t ≡ Tail.Handles a mask pattern → Wrote (fours (listed a mask pattern f)) p o q g → Wrote (tailBytes t f) p o q g
+  tail-handles e w = rw e w
+
+pub ruleset tails = (geometry-right, listed-none, listed-all, tail-nothing, tail-words, tail-handles)
+
 -- ---- what was written in all
 -- of a text on the sheet s that is the sheet z then: behind the bytes that were used comes the piece that there was room for
 abbrev rest : List ℕ → Sheet → List ℕ
@@ -297,3 +329,10 @@ wrote-says {t} {from} {f} {g} {q} w =
     let e : length f - 0 ≡ length f = omega arith in
     let c : q .used ≡ 0 + length (pieceOf t from (length f)) = rw e at (r .used) in
     record { count = omega arith; more = rw e at (r .more); buffer = rw e at (r .buffer) }
+
+-- an answer
+pub says-bytes : (a : Reply) (l : List ℕ) {from : ℕ} {f g h i j : List ℕ} {p q r s : Pen}
+    → Wrote (twoDigits (a .number)) (record { skip = from; used = 0; more = false }) f p g → Wrote (fourDigits (a .stores)) p g q h → Wrote (tailBytes (a .tail) l) q h r i
+    → Wrote (newline ∷ []) r i s j → Says (bytes a l) from f (record { count = s .used; more = s .more }) j
+unfolding bytes
+says-bytes a l u v w x = wrote-says (wrote-append u (wrote-append v (wrote-append w x)))

@@ -14,6 +14,7 @@ mod saying;
 mod shapes;
 
 use rules::PageSize;
+pub use saying::say;
 
 // The power of a frame that none was named for: more than any list of stores needs.
 pub const ENOUGH: u32 = 0xFFFF_FFFF;

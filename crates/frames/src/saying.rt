@@ -8,8 +8,14 @@ ghost use Prim.Native.Nat.{suc, min, _%_};
 ghost use lib.ListN.{take, drop};
 ghost use Rattle.rules.specs.Areas.{entries};
 ghost use Rattle.rules.specs.Places.{Right};
-ghost use Rattle.frames.specs.Frames.{digit, twoDigits, fourDigits, eightDigits, eights, fours, handles};
+ghost use Rattle.frames.specs.Frames.{digit, twoDigits, fourDigits, eightDigits, eights, fours, handles, listed, tailBytes, bytes, Says};
 ghost use Rattle.frames.specs.Saying.{Wrote, fourIf};
+use crate::Reply;
+use crate::Said;
+use crate::Shape;
+use crate::Tail;
+use crate::shapes::area_of;
+use crate::shapes::run_end;
 use rules::Area;
 
 // A pen over a lent buffer: so many bytes of the text are still to be passed over, so many bytes of
@@ -137,4 +143,56 @@ fn handles(out: &mut [u8], flash: &[u32], area: Area, mask: u32, pattern: u32, p
         cursor = entries::after(flash, area, cursor);
     }
     p
+}
+
+// Writes the handles in the area of a shape that a filter lets through; nothing where the flash has
+// no such area.
+fn listed(out: &mut [u8], flash: &[u32], shape: Shape, mask: u16, pattern: u16, pen: Pen) -> Pen
+    ensures { λ r. ⌜ Wrote (fours (listed shape mask pattern (now (flash .entry)))) pen (now (out .entry)) r (now (out .exit)) ⌝ }
+{
+    let area = area_of(shape);
+    let run = entries::up_to(flash, run_end(flash, shape));
+    if area::wrong_geometry(run, area) {
+        return pen;
+    }
+    handles(out, run, area, mask as u32, pattern as u32, pen)
+}
+
+// Writes what an answer says behind number and stores.
+fn tail(out: &mut [u8], tail: Tail, flash: &[u32], pen: Pen) -> Pen
+    ensures { λ r. ⌜ Wrote (tailBytes tail (now (flash .entry))) pen (now (out .entry)) r (now (out .exit)) ⌝ }
+{
+    match tail {
+        Tail::Nothing => pen,
+        Tail::Words {
+            place,
+            words: count,
+        } => words(out, part_of(flash, place, count), pen),
+        Tail::Handles {
+            shape,
+            mask,
+            pattern,
+        } => listed(out, flash, shape, mask, pattern, pen),
+    }
+}
+
+// Puts the bytes of an answer from one on into the buffer, as many as it has room for; none from
+// behind the last byte on. The answer is as the flash is now: what its tail says is read there.
+pub fn say(reply: Reply, flash: &[u32], from: usize, out: &mut [u8]) -> Said
+    ensures { λ r. ⌜ Says (bytes reply (now (flash .entry))) from (now (out .entry)) r (now (out .exit)) ⌝ }
+{
+    let pen = Pen {
+        skip: from,
+        used: 0,
+        more: false,
+    };
+    let behind = reply.tail;
+    let numbered = two_digits(out, reply.number as u32, pen);
+    let counted = four_digits(out, reply.stores, numbered);
+    let told = tail(out, behind, flash, counted);
+    let end = put(out, b'\n', told);
+    Said {
+        count: end.used,
+        more: end.more,
+    }
 }
