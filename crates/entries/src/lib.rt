@@ -1,9 +1,10 @@
-// The area's entries, one behind the other through its pages: the entry of a handle and its data,
-// handles that are live twice and the stores that mend it, the next match of a filter, and the
-// places of headers. Promises are the definitions of `rules`.
+// The area's entries, one behind the other through its pages: a walk over them, the entry of a
+// handle and its data, handles that are live twice and the stores that mend it, the next match of a
+// filter, and the places of headers. Promises are the definitions of `rules`.
 //
 // Every function here is proved. Each public one asks for a right geometry, but `up_to`, which asks
-// for a place inside the run. `drop_doubles` alone stores; the others change no word.
+// for a place inside the run, and `passes`, which asks for nothing; `after` asks too that its cursor
+// stands at an entry. `drop_doubles` alone stores; the others change no word.
 ghost use mathlib.Core.Bool.{_&&_};
 ghost use mathlib.Core.Path.{_≡_};
 ghost use Prim.Native.Nat.{suc, min, _+_, _≤_, _<_};
@@ -31,11 +32,11 @@ pub enum Found {
 // A place that a walk over the area's entries has come to: an entry's header in the run, the
 // entry's length, where its page ends, and how many pages are left behind that one. Behind the last
 // entry the length is 0.
-struct Cursor {
-    place: usize,
-    length: usize,
-    end: usize,
-    left: usize,
+pub struct Cursor {
+    pub place: usize,
+    pub length: usize,
+    pub end: usize,
+    pub left: usize,
 }
 
 // The run up to a place.
@@ -76,7 +77,7 @@ fn settle(flash: &[u32], area: Area, place: usize, end: usize, left: usize) -> C
 }
 
 // The cursor at the area's first entry.
-fn first(flash: &[u32], area: Area) -> Cursor
+pub fn first(flash: &[u32], area: Area) -> Cursor
     requires { ⌜ Right area (now flash) ⌝ }
     ensures { λ r. ⌜ Settled area (now (flash .entry)) (entries area (now (flash .entry))) r ⌝ }
 {
@@ -84,7 +85,7 @@ fn first(flash: &[u32], area: Area) -> Cursor
 }
 
 // The cursor at the entry behind that of a cursor, or behind the last entry; further on in the run.
-fn after(flash: &[u32], area: Area, cursor: Cursor) -> Cursor
+pub fn after(flash: &[u32], area: Area, cursor: Cursor) -> Cursor
     requires { ⌜ Right area (now flash) × Sound area (now flash) cursor × (cursor .length ≡ 0 → ⊥) ⌝ }
     ensures { λ r. ⌜ Settled area (now (flash .entry)) (behind area (now (flash .entry)) cursor) r × (cursor .place < r .place) ⌝ }
 {
@@ -224,7 +225,7 @@ pub fn drop_doubles(flash: &mut [u32], area: Area, power: Power) -> Power
 }
 
 // Whether a handle is a live one that the filter lets through.
-fn passes(handle: u32, mask: u32, pattern: u32) -> bool
+pub fn passes(handle: u32, mask: u32, pattern: u32) -> bool
     ensures { λ r. ⌜ r ≡ isLive handle && eqb (bitAnd handle mask) (bitAnd pattern mask) ⌝ }
 {
     (handle != 0) & (handle & mask == pattern & mask)

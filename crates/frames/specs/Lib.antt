@@ -3,3 +3,4 @@ pub mod Lines
 pub mod Shapes
 pub mod Requests
 pub mod Carrying
+pub mod Saying

@@ -11,9 +11,11 @@
 mod carrying;
 mod line;
 mod requests;
+mod saying;
 mod shapes;
 
 use rules::PageSize;
+pub use saying::say;
 
 // The power of a frame that none was named for: more than any list of stores needs.
 pub const ENOUGH: u32 = 0xFFFF_FFFF;
