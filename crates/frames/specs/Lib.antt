@@ -1,2 +1,4 @@
 pub mod Frames
 pub mod Stepping
+pub mod Sessions
+pub mod Listing
