@@ -57,6 +57,17 @@ abbrev pub after : ℕ → Search → Search
 after zero s = s
 after (suc n) s = after n (moved s)
 
+-- ---- what the console says
+-- the search that a list stands for, its reply, and a read's
+abbrev pub listSearch : Shape → List ℕ → ℕ → ℕ → Search
+listSearch a f mask pattern = searchAt (areaOf a) (runOf a f) mask pattern 0
+
+abbrev pub listSaid : Shape → List ℕ → ℕ → ℕ → Reply
+listSaid a f mask pattern = listReply a mask pattern (searchOf (areaOf a) mask pattern 0 (runOf a f))
+
+abbrev pub readSaid : Shape → List ℕ → ℕ → Reply
+readSaid a f h = readReply (readOf (areaOf a) h (runOf a f))
+
 -- ---- a refused step
 stays : (s : Search) (r : Refusal) → stepOf s ≡ Yielded.Refused r → moved s ≡ s
 stays s r q = ap (λ (y : Yielded). searchAt (s .area) (s .run) (s .mask) (s .pattern) (placeAfter (s .place) y)) q
@@ -229,42 +240,44 @@ usable-run a w q = record { words = words-take (runWords a) w; right = q }
 
 -- ---- a list
 module _ (a : Shape) {f : List ℕ} (w : Words f) (mask pattern : ℕ) where
-  -- the search that it stands for, and its reply
-  abbrev pub listSearch : Search
-  listSearch = searchAt (areaOf a) (runOf a f) mask pattern 0
-
-  abbrev pub listSaid : Reply
-  listSaid = listReply a mask pattern (searchOf (areaOf a) mask pattern 0 (runOf a f))
-
-  listed-all : (q : ℕ) → stepOf listSearch ≡ Yielded.At q → (n : ℕ) → length (listed a mask pattern f) ≤ n → listed a mask pattern f ≡ yields n listSearch
+  -- of so many steps as there are handles, or more
+  listed-all : (q n : ℕ) → stepOf (listSearch a f mask pattern) ≡ Yielded.At q → length (listed a mask pattern f) ≤ n
+      → (listed a mask pattern f ≡ yields n (listSearch a f mask pattern)) × (stepOf (after n (listSearch a f mask pattern)) ≡ Yielded.Refused NotFound)
   unfolding listed
-  listed-all q y n l =
+  listed-all q n y l =
       let t = yields-ready (areaOf a) (runOf a f) mask pattern 0 q y in
+      let u = usable-run a w (t .0) in
       let hs = handles mask pattern (entries (areaOf a) (runOf a f)) in
       let k : length hs ≤ n = rw (t .0) at l in
-      rw (t .0) (sym (take-all n hs k) ∙ sym (steps-yield mask pattern (usable-run a w (t .0)) (t .1) n))
+      rw (t .0) (sym (take-all n hs k) ∙ sym (steps-yield mask pattern u (t .1) n), steps-end mask pattern u (t .1) n k)
 
-  -- it lists what so many steps yield as there are handles, or more; or it is refused as the first step is
+  -- it lists what they yield, and one more is refused as NOTFOUND; or it is refused as the first step is
   pub list-is-steps : (n : ℕ) → length (listed a mask pattern f) ≤ n
-      → ((listSaid .number ≡ 0x00) × (listed a mask pattern f ≡ yields n listSearch))
-      ⊎ ((r : Refusal) × (listSaid .number ≡ refusalNumber r) × (stepOf listSearch ≡ Yielded.Refused r))
-  list-is-steps n l = go (stepOf listSearch) refl
+      → ((listSaid a f mask pattern .number ≡ 0x00)
+      × (listed a mask pattern f ≡ yields n (listSearch a f mask pattern))
+      × (stepOf (after n (listSearch a f mask pattern)) ≡ Yielded.Refused NotFound))
+      ⊎ ((r : Refusal) × (listSaid a f mask pattern .number ≡ refusalNumber r) × (stepOf (listSearch a f mask pattern) ≡ Yielded.Refused r))
+  list-is-steps n l = go (stepOf (listSearch a f mask pattern)) refl
     where
-      go : (y : Yielded) → stepOf listSearch ≡ y
-          → ((listReply a mask pattern y .number ≡ 0x00) × (listed a mask pattern f ≡ yields n listSearch))
+      go : (y : Yielded) → stepOf (listSearch a f mask pattern) ≡ y
+          → ((listReply a mask pattern y .number ≡ 0x00)
+          × (listed a mask pattern f ≡ yields n (listSearch a f mask pattern))
+          × (stepOf (after n (listSearch a f mask pattern)) ≡ Yielded.Refused NotFound))
           ⊎ ((r : Refusal) × (listReply a mask pattern y .number ≡ refusalNumber r) × (y ≡ Yielded.Refused r))
-      go (Yielded.At q) e = inl (refl, listed-all q e n l)
+      go (Yielded.At q) e = let t = listed-all q n e l in inl (refl, t .0, t .1)
       go (Yielded.Refused r) e = inr (r, refl, refl)
 
-  -- and that is what stands in its line: its number is the first step's, and then come the handles that the steps yield
+  -- so its line has the number of the first step, and then the handles that the steps yield
   pub list-says : (n : ℕ) → length (listed a mask pattern f) ≤ n
-      → (listSaid .number ≡ yieldedNumber (stepOf listSearch)) × (tailBytes (listSaid .tail) f ≡ fours (yields n listSearch))
-  list-says n l = go (stepOf listSearch) refl
+      → (listSaid a f mask pattern .number ≡ yieldedNumber (stepOf (listSearch a f mask pattern)))
+      × (tailBytes (listSaid a f mask pattern .tail) f ≡ fours (yields n (listSearch a f mask pattern)))
+  list-says n l = go (stepOf (listSearch a f mask pattern)) refl
     where
-      go : (y : Yielded) → stepOf listSearch ≡ y
-          → (listReply a mask pattern y .number ≡ yieldedNumber y) × (tailBytes (listReply a mask pattern y .tail) f ≡ fours (yields n listSearch))
-      go (Yielded.At q) e = (refl, ap fours (listed-all q e n l))
-      go (Yielded.Refused r) e = (refl, ap fours (sym (refused-yields n listSearch r e)))
+      go : (y : Yielded) → stepOf (listSearch a f mask pattern) ≡ y
+          → (listReply a mask pattern y .number ≡ yieldedNumber y)
+          × (tailBytes (listReply a mask pattern y .tail) f ≡ fours (yields n (listSearch a f mask pattern)))
+      go (Yielded.At q) e = (refl, ap fours (listed-all q n e l .0))
+      go (Yielded.Refused r) e = (refl, ap fours (sym (refused-yields n (listSearch a f mask pattern) r e)))
 
 -- ---- a read
 -- words in the front of a list are the list's own
@@ -294,22 +307,19 @@ refusal-some NoRoom e = omega arith
 refusal-some BadPlace e = omega arith
 
 module _ (a : Shape) {f : List ℕ} (w : Words f) (h : ℕ) where
-  abbrev pub readSaid : Reply
-  readSaid = readReply (readOf (areaOf a) h (runOf a f))
-
   -- what the map holds is what a read says
   pub read-is-map : (d : List ℕ) → wrongGeometry (areaOf a) (runOf a f) ≡ false → ready (areaOf a) (runOf a f) ≡ true → mapOf (areaOf a) (runOf a f) h ≡ some d
-      → (readSaid .number ≡ 0x00) × (tailBytes (readSaid .tail) f ≡ eights d)
+      → (readSaid a f h .number ≡ 0x00) × (tailBytes (readSaid a f h .tail) f ≡ eights d)
   read-is-map d q r m =
       let t = read-held h d (usable-run a w q) r m in
       rw (t .1) (refl, ap eights (words-run a f (t .0) h d (t .2)))
 
   -- and it says nothing else
-  pub map-is-read : readSaid .number ≡ 0x00 → (d : List ℕ) × (mapOf (areaOf a) (runOf a f) h ≡ some d) × (tailBytes (readSaid .tail) f ≡ eights d)
+  pub map-is-read : readSaid a f h .number ≡ 0x00 → (d : List ℕ) × (mapOf (areaOf a) (runOf a f) h ≡ some d) × (tailBytes (readSaid a f h .tail) f ≡ eights d)
   map-is-read e = go (readOf (areaOf a) h (runOf a f)) refl e
     where
       go : (x : Reading) → readOf (areaOf a) h (runOf a f) ≡ x → readReply x .number ≡ 0x00
-          → (d : List ℕ) × (mapOf (areaOf a) (runOf a f) h ≡ some d) × (tailBytes (readSaid .tail) f ≡ eights d)
+          → (d : List ℕ) × (mapOf (areaOf a) (runOf a f) h ≡ some d) × (tailBytes (readSaid a f h .tail) f ≡ eights d)
       go (Reading.At p n) q e =
           let c = checked-passed Reading.Refused (findChecks (areaOf a) (runOf a f) h) _ (Reading.At p n) (λ m z. let y : _≡_ {A = ℕ} 0 1 = cc in omega arith) q in
           let d = take n (drop (suc p) (runOf a f)) in
