@@ -78,10 +78,10 @@ module _ (a : Area) (f : List ℕ) (pre : List Entry) (e : Entry) (suf : List En
   small-handle : e .handle < special
   small-handle = goods-head (goods-right (found .es) (subst Goods (found .is) (goods-items (page a f (found .i))))) .small
 
-  place-some : 0 < e .place
+  pub place-some : 0 < e .place
   place-some = let p = found .place in omega arith
 
-stands : {a : Area} {f : List ℕ} → Settled a f → (pre : List Entry) (e : Entry) (suf : List Entry) → entries a f ≡ pre ++ e ∷ suf
+pub stands : {a : Area} {f : List ℕ} → Settled a f → (pre : List Entry) (e : Entry) (suf : List Entry) → entries a f ≡ pre ++ e ∷ suf
     → StandsAt f (e .place) (e .handle) (e .words)
 stands {a} {f} s pre e suf q =
     let n = found a f pre e suf q in
@@ -96,11 +96,11 @@ stands {a} {f} s pre e suf q =
 
 -- ---- places grow in area order
 -- from lo on, and to below hi
-data Grow : ℕ → List Entry → ℕ → Type 0 where
+pub data Grow : ℕ → List Entry → ℕ → Type 0 where
   end : {lo hi : ℕ} → lo ≤ hi → Grow lo [] hi
   step : {lo hi : ℕ} {e : Entry} {x : List Entry} → lo ≤ e .place → Grow (suc (e .place)) x hi → Grow lo (e ∷ x) hi
 
-grow-lower : {lo mid hi : ℕ} {x : List Entry} → lo ≤ mid → Grow mid x hi → Grow lo x hi
+pub grow-lower : {lo mid hi : ℕ} {x : List Entry} → lo ≤ mid → Grow mid x hi → Grow lo x hi
 grow-lower h (end l) = end (le-trans h l)
 grow-lower h (step l g) = step (le-trans h l) g
 
@@ -126,11 +126,11 @@ grow-from {a} {f} s (suc n) i h =
     let two : base a i ≤ base a i + 2 = omega arith in
     rw z (grow-append (grow-lower two (grow-placed (base a i + 2) (base a (suc i)) es (omega arith))) (grow-from s n (suc i) (omega arith)))
 
-grow-behind : {lo hi : ℕ} (mid : List Entry) (c : Entry) (suf : List Entry) → Grow lo (mid ++ c ∷ suf) hi → lo ≤ c .place
+pub grow-behind : {lo hi : ℕ} (mid : List Entry) (c : Entry) (suf : List Entry) → Grow lo (mid ++ c ∷ suf) hi → lo ≤ c .place
 grow-behind [] c suf (step l g) = l
 grow-behind (d ∷ mid) c suf (step l g) = let k = grow-behind mid c suf g in omega arith
 
-grow-entries : {a : Area} {f : List ℕ} → Settled a f → (x : List Entry) → entries a f ≡ x → Grow (base a 0) x (base a (0 + a .pages))
+pub grow-entries : {a : Area} {f : List ℕ} → Settled a f → (x : List Entry) → entries a f ≡ x → Grow (base a 0) x (base a (0 + a .pages))
 unfolding entries
 grow-entries {a} s x q = subst (λ (y : List Entry). Grow (base a 0) y (base a (0 + a .pages))) q (grow-from s (a .pages) 0 (omega arith))
 
@@ -231,7 +231,7 @@ place-entry a f p q = go (eqb p 0) refl (anyOf (isAt p) (entries a f)) refl
     go false x false y = absurd (true≢false (rw (x, y) at q))
 
 module _ {a : Area} {f : List ℕ} (mask pattern place : ℕ) where
-  searched : (c : Entry) → Usable a f → ready a f ≡ true → badPlace a f place ≡ false → next a f mask pattern place ≡ some c
+  pub searched : (c : Entry) → Usable a f → ready a f ≡ true → badPlace a f place ≡ false → next a f mask pattern place ≡ some c
       → searchOf a mask pattern place f ≡ Yielded.At (c .place)
   searched c g r b q =
       passed-checked Yielded.Refused (searchChecks a f mask pattern place) _ (g .right, (ready-sound a f g r, (ready-passed a f r, (b, (ap isNone q, tt)))))

@@ -4,3 +4,6 @@ pub mod Shapes
 pub mod Requests
 pub mod Carrying
 pub mod Saying
+pub mod Stepping
+pub mod Sessions
+pub mod Listing
