@@ -2,3 +2,4 @@ pub mod Frames
 pub mod Stepping
 pub mod Sessions
 pub mod Listing
+pub mod Sound

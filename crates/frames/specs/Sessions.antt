@@ -3,8 +3,8 @@
 use mathlib.Core.Path.{_≡_, refl, ap, sym, _∙_, subst}
 use mathlib.Core.Logic.{_≢_}
 use mathlib.Core.List.{List, [], _∷_, _++_, append-assoc, append-nil}
-use mathlib.Core.Bool.{Bool, true, false, cond, _&&_, _||_, false≢true, true≢false}
-use Prim.Native.Nat.{ℕ, suc, zero, _+_, _*_, _/_, _%_, _≤_, _<_}
+use mathlib.Core.Bool.{Bool, true, false, cond, false≢true, true≢false}
+use Prim.Native.Nat.{ℕ, suc, _+_, _*_, _/_, _%_, _≤_, _<_}
 use native.Mathlib.Omega.{arith}
 use lib.ListN.{length, take, drop, length-append, take-append-drop}
 use lib.Seq.{take-at, take-all}
@@ -20,7 +20,7 @@ use Rattle.frames.specs.declared.State.{State}
 use Rattle.frames.specs.declared.Tail.{Tail}
 use Rattle.frames.specs.declared.Reply.{Reply}
 use Rattle.frames.specs.declared.Frame.{Frame}
-use Rattle.frames.specs.Frames.{isDigit, allDigits, value, two, four, eight, frameOf, digit, twoDigits, fourDigits, eightDigits, eights, fours, areaOf, runWords, runOf, withRun, listed, tailBytes, newline, bytes, plain, enough, start, Carried, told, sizeNamed, formatted, isFormat, carriedBy, carried}
+use Rattle.frames.specs.Frames.{isDigit, allDigits, value, two, four, eight, frameOf, digit, twoDigits, fourDigits, eightDigits, eights, fours, areaOf, runWords, runOf, withRun, listed, tailBytes, newline, bytes, plain, enough, start, told, sizeNamed, formatted, isFormat, carriedBy, carried}
 
 -- ---- lines
 -- the lines of bytes behind those of a line so far; text behind the last newline is a line if there is any
@@ -93,7 +93,7 @@ onArea (Frame.Power k) = false
 onArea (Frame.Format n size) = false
 onArea Frame.Bad = false
 
-run-own : (a : Shape) (f : List ℕ) → withRun a f (runOf a f) ≡ f
+pub run-own : (a : Shape) (f : List ℕ) → withRun a f (runOf a f) ≡ f
 unfolding withRun runOf
 run-own a f = take-append-drop (runWords a) f
 
@@ -116,7 +116,7 @@ before-format k f l = go (frameOf l)
 
 -- ---- a format that is not DONE
 -- leaves state and flash
-format-whole : (a : Shape) (f : List ℕ) → a .pages ≤ 15 → leb (length (formatList (areaOf a) (runOf a f))) enough ≡ true
+pub format-whole : (a : Shape) (f : List ℕ) → a .pages ≤ 15 → leb (length (formatList (areaOf a) (runOf a f))) enough ≡ true
 format-whole a f h = let e = format-length (areaOf a) (runOf a f) in le-leb (length (formatList (areaOf a) (runOf a f))) enough (omega arith)
 
 pub refused-format : (s : State) (f l : List ℕ) (n size : ℕ) → frameOf l ≡ Frame.Format n size → carried s f l .reply .number ≢ 0x00
