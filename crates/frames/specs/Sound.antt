@@ -32,11 +32,12 @@ use Rattle.demands.specs.Requests.{change-ready}
 use Rattle.demands.specs.Demands.{stays-given, recover-stores, write-stores, delete-stores, formatted as format-empty, recover-plan, taken-up-again, never-damaged}
 use Rattle.frames.specs.declared.Shape.{Shape}
 use Rattle.frames.specs.declared.State.{State}
+use Rattle.frames.specs.declared.Tail.{Tail}
 use Rattle.frames.specs.declared.Reply.{Reply}
 use Rattle.frames.specs.declared.Frame.{Frame}
-use Rattle.frames.specs.Frames.{isDigit, allDigits, value, two, four, eight, wordsFrom, frameOf, dataOf, areaOf, runWords, runOf, withRun, plain, enough, start, told, readReply, listReply, stored, sizeNamed, formatted, isFormat, carriedBy, carried}
+use Rattle.frames.specs.Frames.{isDigit, allDigits, value, two, four, eight, wordsFrom, frameOf, dataOf, areaOf, runWords, runOf, withRun, plain, enough, start, readReply, listReply, stored, sizeNamed, formatted, carriedBy, carried}
 use Rattle.frames.specs.Stepping.{usable-run}
-use Rattle.frames.specs.Sessions.{lines, run-own, format-whole}
+use Rattle.frames.specs.Sessions.{lines, by-format, run-own, format-whole}
 
 -- ---- the words of a line are 32-bit words
 value-small : (b : ℕ) → isDigit b ≡ true → value b ≤ 15
@@ -176,15 +177,7 @@ module _ {s : State} {f : List ℕ} (c : Sound s f) where
       go (Frame.List mask pattern) e = c
       go Frame.Recover e = stored-sound recover tt
       go (Frame.Power k) e = powered c
-      go (Frame.Format n size) e = by (isFormat n size) refl
-        where
-          a : Shape
-          a = record { pages = n; size = sizeNamed size }
-
-          by : (b : Bool) → isFormat n size ≡ b
-              → Sound (cond b (formatted s f a) (told s f (plain 0x01 0)) .state) (cond b (formatted s f a) (told s f (plain 0x01 0)) .flash)
-          by true q = format-sound a (leb-true n 15 (and-left (leb n 15) _ (and-right (leb 1 n) _ q)))
-          by false q = c
+      go (Frame.Format n size) e = by-format (λ x. Sound (x .state) (x .flash)) s f l n size (λ h. format-sound (record { pages = n; size = sizeNamed size }) h) c
       go Frame.Bad e = c
 
 -- ---- what answers can be
@@ -207,6 +200,9 @@ allowed BadPlace = false
 
 fits-by : (r : Reply) → leb (r .number) 0xFF ≡ true → eqb (r .number) 0x02 ≡ false → eqb (r .number) 0x09 ≡ false → r .stores ≤ 0xFFFF → Fits r
 fits-by r p q w l = record { number = leb-true (r .number) 0xFF p; not-damaged = eqb-false (r .number) 0x02 q; not-place = eqb-false (r .number) 0x09 w; stores = l }
+
+fits-done : (t : Tail) → Fits (record { number = 0x00; stores = 0; tail = t })
+fits-done t = fits-by (record { number = 0x00; stores = 0; tail = t }) refl refl refl (omega arith)
 
 fits-refused : (n : Refusal) → allowed n ≡ true → Fits (plain (refusalNumber n) 0)
 fits-refused Geometry e = fits-by (plain 0x01 0) refl refl refl (omega arith)
@@ -238,8 +234,7 @@ abbrev toldOf : Plan → ℕ → List ℕ → Reply
 toldOf p k f = let x = outcomeOf p k f .answer in plain (answerNumber x) (answerStores x)
 
 list-fits : (ss : List Store) (k : ℕ) (f : List ℕ) → length ss ≤ 0xFFFF → Fits (toldOf (list ss) k f)
-list-fits ss k f l =
-    go (leb (length ss) k) refl
+list-fits ss k f l = go (leb (length ss) k) refl
   where
     go : (b : Bool) → leb (length ss) k ≡ b → Fits (toldOf (list ss) k f)
     go true q = rw q (fits-by (plain 0x00 (length ss)) refl refl refl l)
@@ -269,13 +264,13 @@ module _ {a : Area} {f : List ℕ} (v : Given a f) (h : a .pages ≤ 15) (d : da
 
   read-fits : (u : ℕ) → Fits (readReply (readOf a u f))
   read-fits u =
-      checks-allow (λ (x : Reading). Fits (readReply x)) Reading.Refused (findChecks a f u) _ fits-refused (record { number = omega arith; not-damaged = λ e. omega arith; not-place = λ e. omega arith; stores = omega arith })
+      checks-allow (λ (x : Reading). Fits (readReply x)) Reading.Refused (findChecks a f u) _ fits-refused (fits-done _)
       (inr refl, (inl d, (inr refl, (inr refl, (inr refl, tt)))))
 
   list-reply-fits : (s : Shape) (mask pattern : ℕ) → Fits (listReply s mask pattern (searchOf a mask pattern 0 f))
   unfolding badPlace
   list-reply-fits s mask pattern =
-      checks-allow (λ (y : Yielded). Fits (listReply s mask pattern y)) Yielded.Refused (searchChecks a f mask pattern 0) _ fits-refused (record { number = omega arith; not-damaged = λ e. omega arith; not-place = λ e. omega arith; stores = omega arith })
+      checks-allow (λ (y : Yielded). Fits (listReply s mask pattern y)) Yielded.Refused (searchChecks a f mask pattern 0) _ fits-refused (fits-done _)
       (inr refl, (inl d, (inr refl, (inl refl, (inr refl, tt)))))
 
 -- of a line's
@@ -318,15 +313,9 @@ module _ {s : State} {f : List ℕ} (c : Sound s f) where
       go (Frame.Delete h) e = stored-fits (delete h) tt
       go (Frame.List mask pattern) e = either-fits _ (λ q. rw q) (λ v d. list-reply-fits v (c .few) d (s .shape) mask pattern)
       go Frame.Recover e = stored-fits recover tt
-      go (Frame.Power k) e = fits-by (plain 0x00 0) refl refl refl (omega arith)
-      go (Frame.Format n size) e = by (isFormat n size) refl
-        where
-          a : Shape
-          a = record { pages = n; size = sizeNamed size }
-
-          by : (b : Bool) → isFormat n size ≡ b → Fits (cond b (formatted s f a) (told s f (plain 0x01 0)) .reply)
-          by true q = format-fits a (leb-true n 15 (and-left (leb n 15) _ (and-right (leb 1 n) _ q)))
-          by false q = fits-refused Geometry refl
+      go (Frame.Power k) e = fits-done _
+      go (Frame.Format n size) e =
+          by-format (λ x. Fits (x .reply)) s f l n size (λ h. format-fits (record { pages = n; size = sizeNamed size }) h) (fits-refused Geometry refl)
       go Frame.Bad e = fits-by (plain 0x0A 0) refl refl refl (omega arith)
 
 -- ---- a whole session
