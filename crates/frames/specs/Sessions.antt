@@ -50,6 +50,11 @@ pub past-limit : (s : State) (f x y : List ℕ) → length x ≡ limit → sessi
 unfolding session lines
 past-limit s f x y l = ap (λ (u : List ℕ). answers s f (linesFrom [] u)) (take-at x y limit l ∙ sym (take-all limit x (omega arith)))
 
+-- ---- the run of an area, put back where it was
+pub run-own : (a : Shape) (f : List ℕ) → withRun a f (runOf a f) ≡ f
+unfolding withRun runOf
+run-own a f = take-append-drop (runWords a) f
+
 -- ---- formats
 -- one that is well-formed is carried out on at most 15 pages, or refused for its geometry
 pub by-format : (P : Carried → Type 0) (s : State) (f l : List ℕ) (n size : ℕ) → (n ≤ 15 → P (formatted s f (record { pages = n; size = sizeNamed size })))
@@ -59,6 +64,51 @@ by-format P s f l n size p q = go (isFormat n size) refl
     go : (b : Bool) → isFormat n size ≡ b → P (cond b (formatted s f (record { pages = n; size = sizeNamed size })) (told s f (plain 0x01 0)))
     go true e = p (leb-true n 15 (and-left (leb n 15) _ (and-right (leb 1 n) _ e)))
     go false e = q
+
+-- its power is enough
+pub format-whole : (a : Shape) (f : List ℕ) → a .pages ≤ 15 → leb (length (formatList (areaOf a) (runOf a f))) enough ≡ true
+format-whole a f h = let e = format-length (areaOf a) (runOf a f) in le-leb (length (formatList (areaOf a) (runOf a f))) enough (omega arith)
+
+-- one that is not DONE leaves state and flash
+abbrev Leaves : State → List ℕ → Carried → Type 0
+Leaves s f c = c .reply .number ≢ 0x00 → (c .state ≡ s) × (c .flash ≡ f)
+
+pub refused-format : (s : State) (f l : List ℕ) (n size : ℕ) → frameOf l ≡ Frame.Format n size → carried s f l .reply .number ≢ 0x00
+    → (carried s f l .state ≡ s) × (carried s f l .flash ≡ f)
+unfolding carried
+refused-format s f l n size e = subst (λ (x : Frame). Leaves s f (carriedBy s f l x)) (sym e) (by-format (Leaves s f) s f l n size (planned (wrongGeometry (areaOf a) (runOf a f)) refl) (λ m. (refl, refl)))
+  where
+    a : Shape
+    a = record { pages = n; size = sizeNamed size }
+
+    planned : (b : Bool) → wrongGeometry (areaOf a) (runOf a f) ≡ b → n ≤ 15 → Leaves s f (formatted s f a)
+    planned true q h m = rw q (refl, run-own a f)
+    planned false q h m = absurd (m (rw (q, format-whole a f h)))
+
+-- and no other frame changes the area
+abbrev pub formats : Frame → Bool
+formats (Frame.Write h n) = false
+formats (Frame.Read h) = false
+formats (Frame.Delete h) = false
+formats (Frame.List mask pattern) = false
+formats Frame.Recover = false
+formats (Frame.Power k) = false
+formats (Frame.Format n size) = true
+formats Frame.Bad = false
+
+pub same-shape : (s : State) (f l : List ℕ) → formats (frameOf l) ≡ false → carried s f l .state .shape ≡ s .shape
+unfolding carried
+same-shape s f l = go (frameOf l)
+  where
+    go : (x : Frame) → formats x ≡ false → carriedBy s f l x .state .shape ≡ s .shape
+    go (Frame.Write h n) e = refl
+    go (Frame.Read h) e = refl
+    go (Frame.Delete h) e = refl
+    go (Frame.List mask pattern) e = refl
+    go Frame.Recover e = refl
+    go (Frame.Power k) e = refl
+    go (Frame.Format n size) e = absurd (true≢false e)
+    go Frame.Bad e = refl
 
 -- ---- power
 -- behind a frame, by what it was before
@@ -98,10 +148,6 @@ onArea (Frame.Power k) = false
 onArea (Frame.Format n size) = false
 onArea Frame.Bad = false
 
-pub run-own : (a : Shape) (f : List ℕ) → withRun a f (runOf a f) ≡ f
-unfolding withRun runOf
-run-own a f = take-append-drop (runWords a) f
-
 -- they are answered GEOMETRY, and all but the power stays
 pub before-format : (k : ℕ) (f l : List ℕ) → onArea (frameOf l) ≡ true
     → carried (record { shape = start .shape; power = k }) f l ≡ record { state = record { shape = start .shape; power = powerAfter (frameOf l) k }; reply = plain 0x01 0; flash = f }
@@ -118,26 +164,6 @@ before-format k f l = go (frameOf l)
     go (Frame.Power j) e = absurd (false≢true e)
     go (Frame.Format n size) e = absurd (false≢true e)
     go Frame.Bad e = absurd (false≢true e)
-
--- ---- a format that is not DONE
--- leaves state and flash
-pub format-whole : (a : Shape) (f : List ℕ) → a .pages ≤ 15 → leb (length (formatList (areaOf a) (runOf a f))) enough ≡ true
-format-whole a f h = let e = format-length (areaOf a) (runOf a f) in le-leb (length (formatList (areaOf a) (runOf a f))) enough (omega arith)
-
-abbrev Leaves : State → List ℕ → Carried → Type 0
-Leaves s f c = c .reply .number ≢ 0x00 → (c .state ≡ s) × (c .flash ≡ f)
-
-pub refused-format : (s : State) (f l : List ℕ) (n size : ℕ) → frameOf l ≡ Frame.Format n size → carried s f l .reply .number ≢ 0x00
-    → (carried s f l .state ≡ s) × (carried s f l .flash ≡ f)
-unfolding carried
-refused-format s f l n size e = subst (λ (x : Frame). Leaves s f (carriedBy s f l x)) (sym e) (by-format (Leaves s f) s f l n size (planned (wrongGeometry (areaOf a) (runOf a f)) refl) (λ m. (refl, refl)))
-  where
-    a : Shape
-    a = record { pages = n; size = sizeNamed size }
-
-    planned : (b : Bool) → wrongGeometry (areaOf a) (runOf a f) ≡ b → n ≤ 15 → Leaves s f (formatted s f a)
-    planned true q h m = rw q (refl, run-own a f)
-    planned false q h m = absurd (m (rw (q, format-whole a f h)))
 
 -- ---- an answer's bytes
 -- frames that are answered with words or handles

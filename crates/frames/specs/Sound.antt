@@ -1,6 +1,6 @@
 -- What holds behind every line, from the first on: flash of 32-bit words, at most 15 pages, and an area that is not damaged. So no answer is
--- DAMAGED or BADPLACE, and number and stores of every answer fit their digits. Assumes nothing.
-use mathlib.Core.Path.{_≡_, refl, ap, sym, _∙_}
+-- DAMAGED or BADPLACE, number and stores of every answer fit their digits, and nothing is CUT for which no power was named. Assumes nothing.
+use mathlib.Core.Path.{_≡_, refl, ap, sym, _∙_, subst}
 use mathlib.Core.List.{List, [], _∷_}
 use mathlib.Core.Bool.{Bool, true, false, cond, _&&_, and-false, false≢true, true≢false}
 use mathlib.Core.Logic.{_≢_, _⊎_, inl, inr}
@@ -10,7 +10,7 @@ use native.Mathlib.Nat.{mul-le-mul-right}
 use lib.ListN.{length, getD, drop}
 use lib.Seq.{take-at}
 use lib.Dec.{leb, eqb}
-use borrow.Author.Tests.{leb-true, leb-false, eqb-false}
+use borrow.Author.Tests.{leb-true, leb-false, le-leb, eqb-false}
 use Rattle.flash.specs.Stores.{blank, Words, none, more, Store, made}
 use Rattle.flash.specs.Laws.{first-all}
 use Rattle.rules.specs.declared.Area.{Area}
@@ -19,7 +19,7 @@ use Rattle.rules.specs.declared.Refusal.the-variants.{Geometry, Damaged, Unread
 use Rattle.rules.specs.declared.Reading.{Reading}
 use Rattle.rules.specs.declared.Yielded.{Yielded}
 use Rattle.rules.specs.Areas.{damaged, ready}
-use Rattle.rules.specs.Refusals.{refusalNumber, answerNumber, answerStores, wrongGeometry, checked, recoverChecks, writeChecks, findChecks, Plan, refuse, list, outcomeOf}
+use Rattle.rules.specs.Refusals.{refusalNumber, answerNumber, answerStores, wrongGeometry, checked, formatChecks, recoverChecks, writeChecks, findChecks, Plan, refuse, list, outcomeOf}
 use Rattle.rules.specs.Lists.{formatList, deleteList, writeList, recoverList, Request, format, recover, write, delete, planOf}
 use Rattle.rules.specs.Search.{readOf, searchChecks, searchOf, badPlace}
 use Rattle.rules.specs.Laws.{and-left, and-right}
@@ -28,7 +28,7 @@ use Rattle.demands.specs.Terms.{Given, Change, run}
 use Rattle.demands.specs.Runs.{given-of, usable, words-drop, words-append}
 use Rattle.demands.specs.Settled.{ready-sound}
 use Rattle.demands.specs.Format.{format-length}
-use Rattle.demands.specs.Requests.{change-ready}
+use Rattle.demands.specs.Requests.{listed, change-ready}
 use Rattle.demands.specs.Demands.{stays-given, recover-stores, write-stores, delete-stores, formatted as format-empty, recover-plan, taken-up-again, never-damaged}
 use Rattle.frames.specs.declared.Shape.{Shape}
 use Rattle.frames.specs.declared.State.{State}
@@ -317,6 +317,60 @@ module _ {s : State} {f : List ℕ} (c : Sound s f) where
       go (Frame.Format n size) e =
           by-format (λ x. Fits (x .reply)) s f l n size (λ h. format-fits (record { pages = n; size = sizeNamed size }) h) (fits-refused Geometry refl)
       go Frame.Bad e = fits-by (plain 0x0A 0) refl refl refl (omega arith)
+
+-- ---- power that none was named for is enough
+-- no refusal is CUT
+refusal-uncut : (n : Refusal) → refusalNumber n ≢ 0x08
+refusal-uncut Geometry e = omega arith
+refusal-uncut Damaged e = omega arith
+refusal-uncut Unready e = omega arith
+refusal-uncut BadHandle e = omega arith
+refusal-uncut BadLength e = omega arith
+refusal-uncut NotFound e = omega arith
+refusal-uncut NoRoom e = omega arith
+refusal-uncut BadPlace e = omega arith
+
+plan-uncut : (p : Plan) (k : ℕ) (f : List ℕ) → ((ss : List Store) → p ≡ list ss → length ss ≤ k) → toldOf p k f .number ≢ 0x08
+plan-uncut (refuse n) k f h = refusal-uncut n
+plan-uncut (list ss) k f h = rw (le-leb (length ss) k (h ss refl)) (λ e. omega arith)
+
+read-uncut : (x : Reading) → readReply x .number ≢ 0x08
+read-uncut (Reading.At p n) e = omega arith
+read-uncut (Reading.Refused n) e = refusal-uncut n e
+
+list-uncut : (a : Shape) (mask pattern : ℕ) (y : Yielded) → listReply a mask pattern y .number ≢ 0x08
+list-uncut a mask pattern (Yielded.At p) e = omega arith
+list-uncut a mask pattern (Yielded.Refused n) e = refusal-uncut n e
+
+format-uncut : (s : State) (f : List ℕ) (a : Shape) → a .pages ≤ 15 → formatted s f a .reply .number ≢ 0x08
+format-uncut s f a h =
+    plan-uncut (planOf (areaOf a) format (runOf a f)) enough (runOf a f)
+    (λ ss e. leb-true (length ss) enough (subst (λ (u : List Store). leb (length u) enough ≡ true) (listed (formatChecks (areaOf a) (runOf a f)) (formatList (areaOf a) (runOf a f)) ss e .1) (format-whole a f h)))
+
+module _ {s : State} {f : List ℕ} (c : Sound s f) (p : s .power ≡ enough) where
+  stored-uncut : (r : Request) → Asked r → stored s f r .reply .number ≢ 0x08
+  stored-uncut r x = plan-uncut (planOf (areaOf (s .shape)) r (runOf (s .shape) f)) (s .power) (runOf (s .shape) f) (λ ss e. go (wrongGeometry (areaOf (s .shape)) (runOf (s .shape) f)) refl ss e)
+    where
+      go : (b : Bool) → wrongGeometry (areaOf (s .shape)) (runOf (s .shape) f) ≡ b → (ss : List Store) → planOf (areaOf (s .shape)) r (runOf (s .shape) f) ≡ list ss
+          → length ss ≤ s .power
+      go true q ss e =
+          let w : refuse Geometry ≡ list ss = sym (wrong-refused (areaOf (s .shape)) (runOf (s .shape) f) r q) ∙ e in
+          absurd (let y : _≡_ {A = ℕ} 0 1 = cc in let z : ⊥ = omega arith in z)
+      go false q ss e = let l = short (given-run c (s .shape) q) (c .few) (c .undamaged q) r x ss e in omega arith
+
+  pub power-enough : (l : List ℕ) → carried s f l .reply .number ≢ 0x08
+  unfolding carried
+  power-enough l = go (frameOf l) refl
+    where
+      go : (x : Frame) → frameOf l ≡ x → carriedBy s f l x .reply .number ≢ 0x08
+      go (Frame.Write h n) e = stored-uncut (write h (dataOf l n)) (data-words l n (frame-digits l (λ z. let y : _≡_ {A = ℕ} 0 1 = cc in omega arith)))
+      go (Frame.Read h) e = read-uncut (readOf (areaOf (s .shape)) h (runOf (s .shape) f))
+      go (Frame.Delete h) e = stored-uncut (delete h) tt
+      go (Frame.List mask pattern) e = list-uncut (s .shape) mask pattern (searchOf (areaOf (s .shape)) mask pattern 0 (runOf (s .shape) f))
+      go Frame.Recover e = stored-uncut recover tt
+      go (Frame.Power k) e = λ z. omega arith
+      go (Frame.Format n size) e = by-format (λ x. x .reply .number ≢ 0x08) s f l n size (λ h. format-uncut s f (record { pages = n; size = sizeNamed size }) h) (λ z. omega arith)
+      go Frame.Bad e = λ z. omega arith
 
 -- ---- a whole session
 -- each of its answers
