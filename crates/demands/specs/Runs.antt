@@ -52,7 +52,7 @@ words-take zero q = none
 words-take (suc k) none = none
 words-take (suc k) (more b bs) = more b (words-take k bs)
 
-words-drop : (k : ℕ) {ws : List ℕ} → Words ws → Words (drop k ws)
+pub words-drop : (k : ℕ) {ws : List ℕ} → Words ws → Words (drop k ws)
 words-drop zero q = q
 words-drop (suc k) none = none
 words-drop (suc k) (more b bs) = words-drop k bs

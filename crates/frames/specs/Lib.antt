@@ -7,3 +7,4 @@ pub mod Saying
 pub mod Stepping
 pub mod Sessions
 pub mod Listing
+pub mod Sound

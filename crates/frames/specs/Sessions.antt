@@ -3,15 +3,14 @@
 use mathlib.Core.Path.{_≡_, refl, ap, sym, _∙_, subst}
 use mathlib.Core.Logic.{_≢_}
 use mathlib.Core.List.{List, [], _∷_, _++_, append-assoc, append-nil}
-use mathlib.Core.Bool.{Bool, true, false, cond, _&&_, _||_, false≢true, true≢false}
-use Prim.Native.Nat.{ℕ, suc, zero, _+_, _*_, _/_, _%_, _≤_, _<_}
+use mathlib.Core.Bool.{Bool, true, false, cond, false≢true, true≢false}
+use Prim.Native.Nat.{ℕ, suc, _+_, _*_, _/_, _%_, _≤_, _<_}
 use native.Mathlib.Omega.{arith}
 use lib.ListN.{length, take, drop, length-append, take-append-drop}
 use lib.Seq.{take-at, take-all}
 use lib.Dec.{leb, ltb, eqb}
 use borrow.Author.Tests.{leb-true, le-leb, lt-leb, ltb-true, ltb-false, ne-eqb}
-use Rattle.rules.specs.declared.Refusal.the-variants.{Geometry}
-use Rattle.rules.specs.Refusals.{refusalNumber, wrongGeometry}
+use Rattle.rules.specs.Refusals.{wrongGeometry}
 use Rattle.rules.specs.Lists.{formatList}
 use Rattle.rules.specs.Laws.{and-left, and-right}
 use Rattle.demands.specs.Format.{format-length}
@@ -51,6 +50,66 @@ pub past-limit : (s : State) (f x y : List ℕ) → length x ≡ limit → sessi
 unfolding session lines
 past-limit s f x y l = ap (λ (u : List ℕ). answers s f (linesFrom [] u)) (take-at x y limit l ∙ sym (take-all limit x (omega arith)))
 
+-- ---- the run of an area, put back where it was
+pub run-own : (a : Shape) (f : List ℕ) → withRun a f (runOf a f) ≡ f
+unfolding withRun runOf
+run-own a f = take-append-drop (runWords a) f
+
+-- ---- formats
+-- one that is well-formed is carried out on at most 15 pages, or refused for its geometry
+pub by-format : (P : Carried → Type 0) (s : State) (f l : List ℕ) (n size : ℕ) → (n ≤ 15 → P (formatted s f (record { pages = n; size = sizeNamed size })))
+    → P (told s f (plain 0x01 0)) → P (carriedBy s f l (Frame.Format n size))
+by-format P s f l n size p q = go (isFormat n size) refl
+  where
+    go : (b : Bool) → isFormat n size ≡ b → P (cond b (formatted s f (record { pages = n; size = sizeNamed size })) (told s f (plain 0x01 0)))
+    go true e = p (leb-true n 15 (and-left (leb n 15) _ (and-right (leb 1 n) _ e)))
+    go false e = q
+
+-- its power is enough
+pub format-whole : (a : Shape) (f : List ℕ) → a .pages ≤ 15 → leb (length (formatList (areaOf a) (runOf a f))) enough ≡ true
+format-whole a f h = let e = format-length (areaOf a) (runOf a f) in le-leb (length (formatList (areaOf a) (runOf a f))) enough (omega arith)
+
+-- one that is not DONE leaves state and flash
+abbrev Leaves : State → List ℕ → Carried → Type 0
+Leaves s f c = c .reply .number ≢ 0x00 → (c .state ≡ s) × (c .flash ≡ f)
+
+pub refused-format : (s : State) (f l : List ℕ) (n size : ℕ) → frameOf l ≡ Frame.Format n size → carried s f l .reply .number ≢ 0x00
+    → (carried s f l .state ≡ s) × (carried s f l .flash ≡ f)
+unfolding carried
+refused-format s f l n size e = subst (λ (x : Frame). Leaves s f (carriedBy s f l x)) (sym e) (by-format (Leaves s f) s f l n size (planned (wrongGeometry (areaOf a) (runOf a f)) refl) (λ m. (refl, refl)))
+  where
+    a : Shape
+    a = record { pages = n; size = sizeNamed size }
+
+    planned : (b : Bool) → wrongGeometry (areaOf a) (runOf a f) ≡ b → n ≤ 15 → Leaves s f (formatted s f a)
+    planned true q h m = rw q (refl, run-own a f)
+    planned false q h m = absurd (m (rw (q, format-whole a f h)))
+
+-- and no other frame changes the area
+abbrev pub formats : Frame → Bool
+formats (Frame.Write h n) = false
+formats (Frame.Read h) = false
+formats (Frame.Delete h) = false
+formats (Frame.List mask pattern) = false
+formats Frame.Recover = false
+formats (Frame.Power k) = false
+formats (Frame.Format n size) = true
+formats Frame.Bad = false
+
+pub same-shape : (s : State) (f l : List ℕ) → formats (frameOf l) ≡ false → carried s f l .state .shape ≡ s .shape
+unfolding carried
+same-shape s f l = go (frameOf l)
+  where
+    go : (x : Frame) → formats x ≡ false → carriedBy s f l x .state .shape ≡ s .shape
+    go (Frame.Write h n) e = refl
+    go (Frame.Read h) e = refl
+    go (Frame.Delete h) e = refl
+    go (Frame.List mask pattern) e = refl
+    go Frame.Recover e = refl
+    go (Frame.Power k) e = refl
+    go (Frame.Format n size) e = absurd (true≢false e)
+    go Frame.Bad e = refl
+
 -- ---- power
 -- behind a frame, by what it was before
 abbrev pub powerAfter : Frame → ℕ → ℕ
@@ -74,11 +133,7 @@ power-after s f l = go (frameOf l)
     go (Frame.List mask pattern) = refl
     go Frame.Recover = refl
     go (Frame.Power j) = refl
-    go (Frame.Format n size) = format-power (isFormat n size)
-      where
-        format-power : (b : Bool) → cond b (formatted s f (record { pages = n; size = sizeNamed size })) (told s f (plain (refusalNumber Geometry) 0)) .state .power ≡ s .power
-        format-power true = refl
-        format-power false = refl
+    go (Frame.Format n size) = by-format (λ c. c .state .power ≡ s .power) s f l n size (λ h. refl) refl
     go Frame.Bad = refl
 
 -- ---- before a format
@@ -92,10 +147,6 @@ onArea Frame.Recover = true
 onArea (Frame.Power k) = false
 onArea (Frame.Format n size) = false
 onArea Frame.Bad = false
-
-run-own : (a : Shape) (f : List ℕ) → withRun a f (runOf a f) ≡ f
-unfolding withRun runOf
-run-own a f = take-append-drop (runWords a) f
 
 -- they are answered GEOMETRY, and all but the power stays
 pub before-format : (k : ℕ) (f l : List ℕ) → onArea (frameOf l) ≡ true
@@ -113,28 +164,6 @@ before-format k f l = go (frameOf l)
     go (Frame.Power j) e = absurd (false≢true e)
     go (Frame.Format n size) e = absurd (false≢true e)
     go Frame.Bad e = absurd (false≢true e)
-
--- ---- a format that is not DONE
--- leaves state and flash
-format-whole : (a : Shape) (f : List ℕ) → a .pages ≤ 15 → leb (length (formatList (areaOf a) (runOf a f))) enough ≡ true
-format-whole a f h = let e = format-length (areaOf a) (runOf a f) in le-leb (length (formatList (areaOf a) (runOf a f))) enough (omega arith)
-
-pub refused-format : (s : State) (f l : List ℕ) (n size : ℕ) → frameOf l ≡ Frame.Format n size → carried s f l .reply .number ≢ 0x00
-    → (carried s f l .state ≡ s) × (carried s f l .flash ≡ f)
-unfolding carried
-refused-format s f l n size e = subst (λ (x : Frame). carriedBy s f l x .reply .number ≢ 0x00 → (carriedBy s f l x .state ≡ s) × (carriedBy s f l x .flash ≡ f)) (sym e) (go (isFormat n size) refl)
-  where
-    a : Shape
-    a = record { pages = n; size = sizeNamed size }
-
-    planned : (b : Bool) → wrongGeometry (areaOf a) (runOf a f) ≡ b → n ≤ 15 → formatted s f a .reply .number ≢ 0x00 → (formatted s f a .state ≡ s) × (formatted s f a .flash ≡ f)
-    planned true q h m = rw q (refl, run-own a f)
-    planned false q h m = absurd (m (rw (q, format-whole a f h)))
-
-    go : (b : Bool) → isFormat n size ≡ b → cond b (formatted s f a) (told s f (plain 0x01 0)) .reply .number ≢ 0x00
-        → (cond b (formatted s f a) (told s f (plain 0x01 0)) .state ≡ s) × (cond b (formatted s f a) (told s f (plain 0x01 0)) .flash ≡ f)
-    go true q = planned (wrongGeometry (areaOf a) (runOf a f)) refl (leb-true n 15 (and-left (leb n 15) _ (and-right (leb 1 n) _ q)))
-    go false q = λ m. (refl, refl)
 
 -- ---- an answer's bytes
 -- frames that are answered with words or handles
@@ -159,11 +188,7 @@ answer-plain s f l = go (frameOf l)
     go (Frame.List mask pattern) e = absurd (true≢false e)
     go Frame.Recover e = refl
     go (Frame.Power k) e = refl
-    go (Frame.Format n size) e = format-plain (isFormat n size)
-      where
-        format-plain : (b : Bool) → cond b (formatted s f (record { pages = n; size = sizeNamed size })) (told s f (plain (refusalNumber Geometry) 0)) .reply .tail ≡ Tail.Nothing
-        format-plain true = refl
-        format-plain false = refl
+    go (Frame.Format n size) e = by-format (λ c. c .reply .tail ≡ Tail.Nothing) s f l n size (λ h. refl) refl
     go Frame.Bad e = refl
 
 -- seven, with those of what comes behind number and stores

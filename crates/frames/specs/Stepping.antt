@@ -3,7 +3,7 @@
 use mathlib.Core.Path.{_≡_, refl, ap, ap₂, sym, _∙_, subst}
 use mathlib.Core.List.{List, [], _∷_, _++_, append-assoc, nil≢cons}
 use mathlib.Core.Bool.{Bool, true, false}
-use mathlib.Core.Option.{Option, some, none}
+use mathlib.Core.Option.{some, none}
 use mathlib.Core.Logic.{_⊎_, inl, inr, _↔_}
 use Prim.Native.Nat.{ℕ, suc, zero, _+_, _-_, _*_, _≤_, _<_, min}
 use native.Mathlib.Omega.{arith}
@@ -234,7 +234,7 @@ yields-ready a f mask pattern p q y =
     (c .0 .0, passed-ready a f (c .0 .1 .0) (c .0 .1 .1 .0))
 
 -- ---- the area of the console
-usable-run : (a : Shape) {f : List ℕ} → Words f → wrongGeometry (areaOf a) (runOf a f) ≡ false → Usable (areaOf a) (runOf a f)
+pub usable-run : (a : Shape) {f : List ℕ} → Words f → wrongGeometry (areaOf a) (runOf a f) ≡ false → Usable (areaOf a) (runOf a f)
 unfolding runOf
 usable-run a w q = record { words = words-take (runWords a) w; right = q }
 
