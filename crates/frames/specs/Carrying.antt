@@ -1,11 +1,11 @@
 -- What a line does, from what its request answers: promise and laws. Assumes nothing.
 use mathlib.Core.Path.{_≡_, refl, sym, ap, subst, _∙_}
 use mathlib.Core.List.{List, _++_}
-use mathlib.Core.Bool.{true, false}
+use mathlib.Core.Bool.{Bool, true, false}
 use Prim.Native.Nat.{ℕ}
 use lib.ListN.{take}
 use lib.Seq.{length-take-le}
-use borrow.Author.Tests.{ne-eqb}
+use borrow.Author.Tests.{ne-eqb, not-true, not-false}
 use Rattle.rules.specs.declared.Answer.{Answer}
 use Rattle.rules.specs.declared.Reading.{Reading}
 use Rattle.rules.specs.declared.Refusal.{Refusal}
@@ -22,7 +22,7 @@ use Rattle.frames.specs.declared.Tail.{Tail}
 use Rattle.frames.specs.declared.Reply.{Reply}
 use Rattle.frames.specs.declared.Frame.{Frame}
 use Rattle.frames.specs.declared.carrying.Taken.{Taken}
-use Rattle.frames.specs.Frames.{areaOf, runOf, enough, plain, readReply, readFrame, listReply, listFrame, sizeNamed, shapeAfter, badFrame, noFormat, formatFrame, frameOf, dataOf, Carried, told, stored, carriedBy, carried}
+use Rattle.frames.specs.Frames.{areaOf, runOf, enough, plain, readReply, readFrame, listReply, listFrame, sizeNamed, shapeAfter, badFrame, isFormat, formatFrame, frameOf, dataOf, Carried, told, stored, carriedBy, carried}
 use Rattle.frames.specs.Lines.{written-digits, written-fits, written-few, words-put, words-room}
 use Rattle.frames.specs.Requests.{Makes}
 
@@ -104,18 +104,18 @@ module _ (s : State) where
     carries-write {x} {g} l v h n e m p =
         carries-stored (subst (λ (u : List ℕ). Makes (s .shape) (write h u) (s .power) f x g) (words-put l v n e) m) p
 
-    module _ (n size : ℕ) where
-      pub no-format : {m : ℕ} {r : Reply} → noFormat n size ≡ true → m ≡ refusalNumber Geometry → r ≡ plain m 0 → Carries (formatFrame s f n size) (record { state = s; reply = r }) f
-      no-format t e q = rw t (record { state = refl; reply = refused-reply Geometry e q; flash = refl })
+    module _ {b : Bool} (n size : ℕ) (o : b ≡ isFormat n size) where
+      pub no-format : {m : ℕ} {r : Reply} → b ≡ false → m ≡ refusalNumber Geometry → r ≡ plain m 0 → Carries (formatFrame s f n size) (record { state = s; reply = r }) f
+      no-format t e q = rw (← o, t) (record { state = refl; reply = refused-reply Geometry e q; flash = refl })
 
-      pub carries-format : {z : PageSize} {x : Answer} {g : List ℕ} {a : Shape} {r : Reply} → noFormat n size ≡ false → z ≡ sizeNamed size
+      pub carries-format : {z : PageSize} {x : Answer} {g : List ℕ} {a : Shape} {r : Reply} → b ≡ true → z ≡ sizeNamed size
           → Makes (record { pages = n; size = z }) format enough f x g → a ≡ shapeAfter (s .shape) (record { pages = n; size = z }) x → r ≡ plain (answerNumber x) (answerStores x)
           → Carries (formatFrame s f n size) (record { state = record { shape = a; power = s .power }; reply = r }) g
       carries-format {z} {x} {g} {a} {r} t e m d q =
           let new : Shape = record { pages = n; size = sizeNamed size } in
           let k : Makes new format enough f x g = rw e at m in
           let b : a ≡ shapeAfter (s .shape) new x = rw e at d in
-          rw t
+          rw (← o, t)
           (record {
             state = rw (b, k .answer);
             reply = q ∙ ap (λ (u : Answer). plain (answerNumber u) (answerStores u)) (k .answer);
@@ -126,7 +126,7 @@ pub ruleset carries = (spends, tells, carries-stored, carries-read, carries-list
 
 pub ruleset writeCarries = (written-digits, written-fits, written-few, words-room, length-take-le, carries-write)
 
-pub ruleset formatCarries = (no-format, carries-format)
+pub ruleset formatCarries = (not-true, not-false, no-format, carries-format)
 
 -- ---- the line, by its frame
 pub is-write-frame : {w : Frame} {h n : ℕ} (l : List ℕ) → w ≡ frameOf l → w ≡ Frame.Write h n → frameOf l ≡ Frame.Write h n

@@ -198,12 +198,12 @@ formatted s f a =
       flash = withRun a f (o .flash);
     }
 
--- whether there are no such areas on the console
-abbrev pub noFormat : ℕ → ℕ → Bool
-noFormat n size = ltb n 1 || (ltb 15 n || ltb 2 size)
+-- whether there can be such an area on the console
+abbrev pub isFormat : ℕ → ℕ → Bool
+isFormat n size = leb 1 n && (leb n 15 && leb size 2)
 
 abbrev pub formatFrame : State → List ℕ → ℕ → ℕ → Carried
-formatFrame s f n size = cond (noFormat n size) (told s f (plain (refusalNumber Geometry) 0)) (formatted s f (record { pages = n; size = sizeNamed size }))
+formatFrame s f n size = cond (isFormat n size) (formatted s f (record { pages = n; size = sizeNamed size })) (told s f (plain (refusalNumber Geometry) 0))
 
 -- of each kind
 abbrev pub carriedBy : State → List ℕ → List ℕ → Frame → Carried

@@ -4,7 +4,7 @@
 ghost use mathlib.Core.Path.{_≡_};
 ghost use Rattle.rules.specs.Refusals.{answerNumber, answerStores};
 ghost use Rattle.rules.specs.Lists.{recover, write, delete};
-ghost use Rattle.frames.specs.Frames.{frameOf, dataOf, plain, readReply, listReply, sizeNamed, shapeAfter, badFrame, stored, readFrame, listFrame, formatFrame, carried};
+ghost use Rattle.frames.specs.Frames.{frameOf, dataOf, plain, readReply, listReply, sizeNamed, shapeAfter, badFrame, stored, readFrame, listFrame, isFormat, formatFrame, carried};
 ghost use Rattle.frames.specs.declared.Frame.the-variants.{Write};
 ghost use Rattle.frames.specs.Carrying.{Carries, Spends, Tells};
 use crate::ENOUGH;
@@ -188,12 +188,19 @@ fn powered(state: State, power: u16) -> Taken
     }
 }
 
+// Whether there can be an area of so many pages of a size on the console.
+fn is_format(pages: u8, size: u8) -> bool
+    ensures { λ r. ⌜ r ≡ isFormat pages size ⌝ }
+{
+    (1 <= pages) & ((pages <= 15) & (size <= 2))
+}
+
 // A format of so many pages of a size.
 fn carry_format(state: State, flash: &mut [u32], pages: u8, size: u8) -> Taken
     ensures { λ r. ⌜ Carries (formatFrame state (now (flash .entry)) pages size) r (now (flash .exit)) ⌝ }
 {
     let old = state.shape;
-    if (pages < 1) | ((15 < pages) | (2 < size)) {
+    if !is_format(pages, size) {
         return Taken {
             state,
             reply: plain(Refusal::Geometry.number(), 0),

@@ -4,6 +4,9 @@ use Rattle.frames.specs.Carrying.{formatCarries}
 use Rattle.frames.proofs.carrying.carry_format.Statement.{statement}
 use Rattle.frames.proofs.carrying.carry_format.Tie as tie
 
+is-format-requires : tie.Need-is-format-requires
+is-format-requires c κs = search needs
+
 number-requires : tie.Need-number-requires
 number-requires c κs = search needs
 
@@ -35,6 +38,7 @@ pub carry-format-spec : {M : Type 1} → statement M
 carry-format-spec =
     tie.close
     (tie.spec
+    is-format-requires
     number-requires
     plain-requires
     returns
