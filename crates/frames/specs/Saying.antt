@@ -24,7 +24,6 @@ use Rattle.area.specs.Checks.{geometry-right}
 use Rattle.frames.specs.declared.Shape.{Shape}
 use Rattle.frames.specs.declared.Tail.{Tail}
 use Rattle.frames.specs.declared.Reply.{Reply}
-use Rattle.frames.specs.declared.Said.{Said}
 use Rattle.frames.specs.declared.saying.Pen.{Pen}
 use Rattle.frames.specs.Frames.{digit, twoDigits, fourDigits, eightDigits, eights, areaOf, fours, handles, listed, tailBytes, newline, bytes, pieceOf, Says}
 use Rattle.frames.specs.Shapes.{RunEnd}
