@@ -12,7 +12,7 @@ use lib.Seq.{take-all, take-nil, drop-nil, drop-cons, take-suc-set, drop-set-lt}
 use lib.Bits.{bitAnd}
 use lib.Dec.{ltb, eqb}
 use borrow.Author.Tests.{lt-ltb, le-ltb}
-use Rattle.flash.specs.Laws.{le-or-lt}
+use Rattle.flash.specs.Laws.{settled, le-or-lt}
 use Rattle.rules.specs.declared.Area.{Area}
 use Rattle.rules.specs.Words.{handleOf, isLive}
 use Rattle.rules.specs.Areas.{Entry, entries}
@@ -336,3 +336,11 @@ pub says-bytes : (a : Reply) (l : List ℕ) {from : ℕ} {f g h i j : List ℕ} 
     → Wrote (newline ∷ []) r i s j → Says (bytes a l) from f (record { count = s .used; more = s .more }) j
 unfolding bytes
 says-bytes a l u v w x = wrote-says (wrote-append u (wrote-append v (wrote-append w x)))
+
+-- one outcome, and no other
+pub says-settles : {t : List ℕ} {from : ℕ} {f g h : List ℕ} {r s : Said} → Says t from f r g → Says t from f s h → (r ≡ s) × (g ≡ h)
+says-settles {f = f} {r = r} {s} x y =
+    let c : r .count ≡ s .count = settled (x .count) (y .count) in
+    let m : r .more ≡ s .more = settled (x .more) (y .more) in
+    let e : r ≡ s = ap (λ (n : ℕ). record { count = n; more = r .more }) c ∙ ap (λ (b : Bool). record { count = s .count; more = b }) m in
+    (e, x .buffer ∙ rw c (sym (y .buffer)))
