@@ -212,6 +212,12 @@ def bare_writes(count, size, entries):
     return text(lines)
 
 
+def much_output(look):
+    """Megabytes of output: a look at an area of 100 entries of 32 words, again and again."""
+    lines = [form(4, 2)] + [write(handle, counting(handle << 8, 32)) for handle in range(1, 101)]
+    return text(lines + [look] * ((model.LIMIT - 27200) // (len(look) + 1)))
+
+
 # ---- Filling every shape to its quota
 
 def full(count, size):
@@ -603,6 +609,8 @@ def all_inputs():
                for size, most in enumerate((15, 15, 6)) for count in range(1, most + 1)]
             + [("bare:600", partial(bare_writes, 15, 1, 600)),
                ("bare:1000", partial(bare_writes, 2, 2, 1000)),
+               ("output:reads", partial(much_output, read(0x64))),
+               ("output:lists", partial(much_output, LIST_ALL)),
                ("lines:every-byte", every_byte),
                ("lines:every-kind", every_kind),
                ("lines:every-length", every_length),
