@@ -1,7 +1,7 @@
 -- The console: document 01, "The console". A line and an answer are lists of bytes. Definitions alone. Assumes nothing.
 use mathlib.Core.Path.{_≡_}
 use mathlib.Core.List.{List, [], _∷_, _++_}
-use mathlib.Core.Bool.{Bool, true, false, cond, _&&_, _||_}
+use mathlib.Core.Bool.{Bool, true, cond, _&&_, _||_}
 use Prim.Native.Nat.{ℕ, suc, zero, _+_, _-_, _*_, _/_, _%_}
 use lib.ListN.{length, getD, take, drop}
 use lib.Dec.{leb, ltb, eqb}
@@ -14,7 +14,7 @@ use Rattle.rules.specs.declared.Reading.{Reading}
 use Rattle.rules.specs.declared.Yielded.{Yielded}
 use Rattle.rules.specs.Words.{wordsOf}
 use Rattle.rules.specs.Areas.{Entry, entries}
-use Rattle.rules.specs.Refusals.{refusalNumber, answerNumber, answerStores, wrongGeometry, Outcome, outcome}
+use Rattle.rules.specs.Refusals.{refusalNumber, answerNumber, answerStores, wrongGeometry, outcome}
 use Rattle.rules.specs.Lists.{Request, format, recover, write, delete, planOf}
 use Rattle.rules.specs.Search.{matches, readOf, searchOf}
 use Rattle.frames.specs.declared.Shape.{Shape}
@@ -23,6 +23,7 @@ use Rattle.frames.specs.declared.Tail.{Tail}
 use Rattle.frames.specs.declared.Reply.{Reply}
 use Rattle.frames.specs.declared.Frame.{Frame}
 use Rattle.frames.specs.declared.Said.{Said}
+use Rattle.frames.specs.declared.Answered.{Answered}
 
 -- ---- digits of a line: capital hexadecimal
 abbrev pub isDigit : ℕ → Bool
@@ -230,3 +231,16 @@ pub record Says (t : List ℕ) (from : ℕ) (f : List ℕ) (r : Said) (g : List 
   pub count : r .count ≡ length (pieceOf t from (length f))
   pub more : r .more ≡ ltb (length f) (length (drop from t))
   pub buffer : g ≡ pieceOf t from (length f) ++ drop (r .count) f
+
+-- ---- a line's answer
+-- of a line l in a state s, with the flash f and a buffer o: what is answered, r, and the flash and the buffer that are left, g and p
+pub record Responds (s : State) (f l o : List ℕ) (r : Answered) (g p : List ℕ) : Type 0 where
+  pub state : r .state ≡ carried s f l .state
+  pub reply : r .reply ≡ carried s f l .reply
+  pub flash : g ≡ carried s f l .flash
+  pub said : Says (bytes (carried s f l .reply) (carried s f l .flash)) 0 o (r .said) p
+
+-- the bytes of a text before its first newline
+abbrev pub lineLength : List ℕ → ℕ
+lineLength [] = 0
+lineLength (b ∷ t) = cond (eqb b newline) 0 (suc (lineLength t))

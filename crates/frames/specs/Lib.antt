@@ -8,3 +8,4 @@ pub mod Stepping
 pub mod Sessions
 pub mod Listing
 pub mod Sound
+pub mod Answering

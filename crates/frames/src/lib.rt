@@ -14,6 +14,10 @@ mod requests;
 mod saying;
 mod shapes;
 
+ghost use mathlib.Core.Path.{_≡_};
+ghost use Prim.Native.Nat.{_≤_};
+ghost use lib.ListN.{length};
+ghost use Rattle.frames.specs.Frames.{start, lineLength, Responds};
 use rules::PageSize;
 pub use saying::say;
 
@@ -72,4 +76,54 @@ pub enum Frame {
 pub struct Said {
     pub count: usize,
     pub more: bool,
+}
+
+// What a line was answered: the state behind it, its reply, and what of the answer is in the buffer.
+pub struct Answered {
+    pub state: State,
+    pub reply: Reply,
+    pub said: Said,
+}
+
+// The state before the first line.
+pub fn start() -> State
+    ensures { λ r. ⌜ r ≡ start ⌝ }
+{
+    let none = Shape {
+        pages: 0,
+        size: PageSize::Small,
+    };
+    State {
+        shape: none,
+        power: ENOUGH,
+    }
+}
+
+// Carries a line out, and puts its answer into the buffer, or the first bytes that it has room for.
+pub fn answer(state: State, flash: &mut [u32], line: &[u8], out: &mut [u8]) -> Answered
+    ensures { λ r. ⌜ Responds state (now (flash .entry)) (now (line .entry)) (now (out .entry)) r (now (flash .exit)) (now (out .exit)) ⌝ }
+{
+    let taken = carrying::carry(state, flash, line);
+    let next = taken.state;
+    let reply = taken.reply;
+    let said = say(reply, flash, 0, out);
+    Answered {
+        state: next,
+        reply,
+        said,
+    }
+}
+
+// The number of bytes before the first newline of a text, all of them if it has none.
+pub fn line_length(text: &[u8]) -> usize
+    ensures { λ r. ⌜ (r ≡ lineLength (now (text .entry))) × (r ≤ length (now (text .entry))) ⌝ }
+{
+    let mut i: usize = 0;
+    while i < text.len() {
+        if text[i] == b'\n' {
+            return i;
+        }
+        i += 1;
+    }
+    i
 }
