@@ -44,6 +44,10 @@ from-few a f zero i = zero-le
 from-few a f (suc n) i =
     omega (arith, length-append (pageEntries a f i) (entriesFrom a f n (suc i)), page-few a f i, from-few a f n (suc i), suc-mul n (a .words))
 
+pub entries-few : (a : Area) (f : List ℕ) → length (entries a f) ≤ a .pages * a .words
+unfolding entries
+entries-few a f = from-few a f (a .pages) 0
+
 supersede-few : (es : List Entry) → length (supersede es) ≤ length es
 supersede-few [] = zero-le
 supersede-few (e ∷ es) = go (doubled e es) refl (supersede-few es)
@@ -53,8 +57,7 @@ supersede-few (e ∷ es) = go (doubled e es) refl (supersede-few es)
     go false q h = rw q (omega arith)
 
 drop-few : (a : Area) (f : List ℕ) → length (dropDoubles a f) ≤ a .pages * a .words
-unfolding entries
-drop-few a f = omega (arith, supersede-few (entriesFrom a f (a .pages) 0), from-few a f (a .pages) 0)
+drop-few a f = omega (arith, supersede-few (entries a f), entries-few a f)
 
 -- ---- pages
 bare-few : (o : Option Entry) → length (bareIfLive o) ≤ 1

@@ -4,22 +4,27 @@ use mathlib.Core.Path.{_≡_, refl, ap, sym, _∙_, subst}
 use mathlib.Core.Logic.{_≢_}
 use mathlib.Core.List.{List, [], _∷_, _++_, append-assoc, append-nil}
 use mathlib.Core.Bool.{Bool, true, false, cond, false≢true, true≢false}
-use Prim.Native.Nat.{ℕ, suc, _+_, _*_, _/_, _%_, _≤_, _<_}
+use Prim.Native.Nat.{ℕ, suc, _+_, _*_, _/_, _%_, _≤_, _<_, zero-le}
 use native.Mathlib.Omega.{arith}
-use lib.ListN.{length, take, drop, length-append, take-append-drop}
+use lib.ListN.{length, take, drop, length-append, length-take, length-drop, take-append-drop}
 use lib.Seq.{take-at, take-all}
 use lib.Dec.{leb, ltb, eqb}
 use borrow.Author.Tests.{leb-true, le-leb, lt-leb, ltb-true, ltb-false, ne-eqb}
+use Rattle.rules.specs.declared.Area.{Area}
+use Rattle.rules.specs.Areas.{base, Entry, entries}
 use Rattle.rules.specs.Refusals.{wrongGeometry}
+use Rattle.rules.specs.Search.{matches}
+use Rattle.rules.specs.Places.{Right, base-suc, right-of}
 use Rattle.rules.specs.Lists.{formatList}
 use Rattle.rules.specs.Laws.{and-left, and-right}
+use Rattle.demands.specs.Counting.{entries-few}
 use Rattle.demands.specs.Format.{format-length}
 use Rattle.frames.specs.declared.Shape.{Shape}
 use Rattle.frames.specs.declared.State.{State}
 use Rattle.frames.specs.declared.Tail.{Tail}
 use Rattle.frames.specs.declared.Reply.{Reply}
 use Rattle.frames.specs.declared.Frame.{Frame}
-use Rattle.frames.specs.Frames.{isDigit, allDigits, value, two, four, eight, frameOf, digit, twoDigits, fourDigits, eightDigits, eights, fours, areaOf, runWords, runOf, withRun, listed, tailBytes, newline, bytes, plain, enough, start, Carried, told, sizeNamed, formatted, isFormat, carriedBy, carried}
+use Rattle.frames.specs.Frames.{isDigit, allDigits, value, two, four, eight, frameOf, digit, twoDigits, fourDigits, eightDigits, eights, fours, areaOf, runWords, runOf, withRun, handles, listed, tailBytes, newline, bytes, plain, enough, start, Carried, told, sizeNamed, formatted, isFormat, carriedBy, carried}
 
 -- ---- lines
 -- the lines of bytes behind those of a line so far; text behind the last newline is a line if there is any
@@ -211,6 +216,39 @@ pub fours-length : (hs : List ℕ) → length (fours hs) ≡ 4 * length hs
 unfolding fourDigits twoDigits
 fours-length [] = refl
 fours-length (h ∷ hs) = let e = fours-length hs in omega arith
+
+-- ---- an answer is not longer than the flash can make it
+handles-few : (mask pattern : ℕ) (es : List Entry) → length (handles mask pattern es) ≤ length es
+handles-few mask pattern [] = zero-le
+handles-few mask pattern (e ∷ es) = go (matches mask pattern e) (handles-few mask pattern es)
+  where
+    go : (b : Bool) → length (handles mask pattern es) ≤ length es → length (cond b (e .handle ∷ handles mask pattern es) (handles mask pattern es)) ≤ suc (length es)
+    go true h = omega arith
+    go false h = omega arith
+
+run-few : (a : Shape) (f : List ℕ) → length (runOf a f) ≤ length f
+unfolding runOf
+run-few a f = omega (arith, length-take (runWords a) f)
+
+entries-inside : {a : Area} {f : List ℕ} → Right a f → length (entries a f) ≤ length f
+unfolding base
+entries-inside {a} {f} r = omega (arith, entries-few a f, base-suc a (a .pages), r .long)
+
+listed-few : (a : Shape) (mask pattern : ℕ) (f : List ℕ) → length (listed a mask pattern f) ≤ length f
+unfolding listed
+listed-few a mask pattern f = go (wrongGeometry (areaOf a) (runOf a f)) refl
+  where
+    go : (b : Bool) → wrongGeometry (areaOf a) (runOf a f) ≡ b → length (cond b [] (handles mask pattern (entries (areaOf a) (runOf a f)))) ≤ length f
+    go true q = zero-le
+    go false q = omega (arith, handles-few mask pattern (entries (areaOf a) (runOf a f)), entries-inside (right-of (areaOf a) (runOf a f) q), run-few a f)
+
+tail-few : (t : Tail) (f : List ℕ) → length (tailBytes t f) ≤ 8 * length f
+tail-few Tail.Nothing f = zero-le
+tail-few (Tail.Words p n) f = omega (arith, eights-length (take n (drop (suc p) f)), length-take n (drop (suc p) f), length-drop (suc p) f)
+tail-few (Tail.Handles a mask pattern) f = omega (arith, fours-length (listed a mask pattern f), listed-few a mask pattern f)
+
+pub bytes-few : (r : Reply) (f : List ℕ) → length (bytes r f) ≤ 7 + 8 * length f
+bytes-few r f = omega (arith, answer-length r f, tail-few (r .tail) f)
 
 -- ---- an answer is one line: digits, and a newline at the end
 digit-is : (n : ℕ) → n < 16 → isDigit (digit n) ≡ true
