@@ -212,6 +212,14 @@ def bare_writes(count, size, entries):
     return text(lines)
 
 
+def growing_lists(first, last):
+    """Lists that grow by a handle each."""
+    lines = [form(3, 2)] + [write(handle) for handle in range(1, first)]
+    for handle in range(first, last + 1):
+        lines += [write(handle), LIST_ALL]
+    return text(lines)
+
+
 def much_output(look):
     """Megabytes of output: a look at an area of 100 entries of 32 words, again and again."""
     lines = [form(4, 2)] + [write(handle, counting(handle << 8, 32)) for handle in range(1, 101)]
@@ -609,6 +617,7 @@ def all_inputs():
                for size, most in enumerate((15, 15, 6)) for count in range(1, most + 1)]
             + [("bare:600", partial(bare_writes, 15, 1, 600)),
                ("bare:1000", partial(bare_writes, 2, 2, 1000)),
+               ("lists:1018-1030", partial(growing_lists, 1018, 1030)),
                ("output:reads", partial(much_output, read(0x64))),
                ("output:lists", partial(much_output, LIST_ALL)),
                ("lines:every-byte", every_byte),

@@ -402,7 +402,7 @@ SPENDING = (1, 3, 5)
 
 # What one line came to: its kind (None for BADFRAME), its line, the power lent to it (None if it
 # has power enough), the number answered, the whole list of stores and how many of them were made.
-Event = namedtuple("Event", "kind line power number stores made")
+Event = namedtuple("Event", "kind line power number stores made tail")
 
 
 def parse(line):
@@ -438,7 +438,7 @@ class Console:
         if kind in SPENDING:
             self.power = None
         number, stores, made, tail = self.request(kind, fields, power)
-        self.watch(Event(kind, line, power, number, stores, made))
+        self.watch(Event(kind, line, power, number, stores, made, tail))
         return "%02X%04X%s\n" % (number, made, tail)
 
     def request(self, kind, fields, power):
