@@ -3,7 +3,6 @@
 // crate `frames`.
 //
 // Every function here is proved to be safe and to end; what is printed is tested.
-ghost use mathlib.Core.Path.{_≡_};
 ghost use Prim.Native.Nat.{_≤_, _<_};
 ghost use lib.ListN.{length};
 ghost use Rattle.frames.specs.Frames.{bytes};

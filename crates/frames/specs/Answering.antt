@@ -1,8 +1,8 @@
 -- A line's answer, from what the line does and what is said of it; that the promise allows one outcome; and where a line ends: laws.
 -- Assumes nothing.
-use mathlib.Core.Path.{_≡_, refl, sym, ap, _∙_}
-use mathlib.Core.List.{List, [], _∷_}
-use mathlib.Core.Bool.{Bool, true, false, cond}
+use mathlib.Core.Path.{_≡_, ap, _∙_}
+use mathlib.Core.List.{List}
+use mathlib.Core.Bool.{cond}
 use Prim.Native.Nat.{ℕ, suc, _+_, _≤_, _<_}
 use native.Mathlib.Omega.{arith}
 use native.Mathlib.Numerals.{add-one}
@@ -16,7 +16,7 @@ use Rattle.frames.specs.declared.Reply.{Reply}
 use Rattle.frames.specs.declared.Said.{Said}
 use Rattle.frames.specs.declared.Answered.{Answered}
 use Rattle.frames.specs.declared.carrying.Taken.{Taken}
-use Rattle.frames.specs.Frames.{bytes, Carried, carried, newline, Says, Responds, lineLength}
+use Rattle.frames.specs.Frames.{bytes, carried, newline, Says, Responds, lineLength}
 use Rattle.frames.specs.Carrying.{Carries}
 use Rattle.frames.specs.Saying.{says-settles}
 

@@ -1,7 +1,7 @@
 -- A line's digits, the numbers they make and the frame of a line, as they are read from place to place: laws. Assumes nothing.
 use mathlib.Core.Path.{_≡_, refl, sym, ap, _∙_}
 use mathlib.Core.List.{List, [], _∷_, _++_, append-assoc}
-use mathlib.Core.Bool.{Bool, true, false, cond, _&&_, _||_, true≢false}
+use mathlib.Core.Bool.{Bool, true, false, cond, _&&_, true≢false}
 use mathlib.Core.Logic.{_⊎_, inl, inr, ⊎-elim}
 use Prim.Native.Nat.{ℕ, suc, zero, _+_, _-_, _*_, _/_, _%_, _≤_, _<_}
 use native.Mathlib.Omega.{arith}
@@ -9,7 +9,7 @@ use native.Mathlib.Numerals.{add-one}
 use lib.ListN.{length, getD, take, drop, set, length-append, drop-of-length-le}
 use lib.Dec.{leb, eqb}
 use lib.Seq.{drop-cons, set-at, take-at}
-use borrow.Author.Tests.{leb-true, leb-false, le-leb, lt-leb, ne-eqb, not-true, not-false}
+use borrow.Author.Tests.{leb-true, le-leb, lt-leb, ne-eqb, not-true, not-false}
 use Rattle.rules.specs.Laws.{and-left, and-right}
 use Rattle.frames.specs.declared.Frame.{Frame}
 use Rattle.frames.specs.Frames.{isDigit, allDigits, value, two, four, eight, wordsFrom, isWrite, shaped, frameOf, dataOf}
@@ -58,6 +58,13 @@ value-low b h = rw (le-leb b 0x39 h)
 
 pub value-high : (b : ℕ) → 0x39 < b → b - 0x37 ≡ value b
 value-high b h = rw (lt-leb b 0x39 h)
+
+pub value-small : (b : ℕ) → isDigit b ≡ true → value b ≤ 15
+value-small b e =
+    ⊎-elim
+    (λ (q : (0x30 ≤ b) × (b ≤ 0x39)). let h = q .1 in rw (le-leb b 0x39 h) (omega arith))
+    (λ (q : (0x41 ≤ b) × (b ≤ 0x46)). let h = q .0 in let k = q .1 in rw (lt-leb b 0x39 (omega arith)) (omega arith))
+    (low-or-high b e)
 
 pub ruleset values = (digit-from, digit-to, value-low, value-high)
 
@@ -250,32 +257,6 @@ neither false x y p q = q
 abbrev Writes : List ℕ → ℕ → Type 0
 Writes l n = (allDigits l ≡ true) × (6 + 8 * n ≤ length l) × (n ≤ 40)
 
-module _ (l : List ℕ) where
-  -- the frames of the other kinds
-  abbrev others : ℕ → Frame
-  others k =
-      let m = length l in
-      cond (eqb k 0x02) (cond (eqb m 6) (Frame.Read (four l 2)) Frame.Bad)
-      (cond (eqb k 0x03) (cond (eqb m 6) (Frame.Delete (four l 2)) Frame.Bad)
-      (cond (eqb k 0x04) (cond (eqb m 10) (Frame.List (four l 2) (four l 6)) Frame.Bad)
-      (cond (eqb k 0x05) (cond (eqb m 2) Frame.Recover Frame.Bad)
-      (cond (eqb k 0x06) (cond (eqb m 6) (Frame.Power (four l 2)) Frame.Bad)
-      (cond (eqb k 0x07) (cond (eqb m 6) (Frame.Format (two l 2) (two l 4)) Frame.Bad) Frame.Bad)))))
-
-  others-none : (k : ℕ) → isWriteFrame (others k) ≡ false
-  others-none k =
-      let m = length l in
-      neither (eqb k 0x02) _ _ (neither (eqb m 6) _ _ refl refl)
-      (neither (eqb k 0x03) _ _ (neither (eqb m 6) _ _ refl refl)
-      (neither (eqb k 0x04) _ _ (neither (eqb m 10) _ _ refl refl)
-      (neither (eqb k 0x05) _ _ (neither (eqb m 2) _ _ refl refl)
-      (neither (eqb k 0x06) _ _ (neither (eqb m 6) _ _ refl refl)
-      (neither (eqb k 0x07) _ _ (neither (eqb m 6) _ _ refl refl) refl)))))
-
-  by-kind : (k : ℕ) → shaped k l ≡ cond (eqb k 0x01) (cond (isWrite (length l)) (Frame.Write (four l 2) ((length l - 6) / 8)) Frame.Bad) (others k)
-  unfolding shaped
-  by-kind k = refl
-
 module _ (l : List ℕ) {h n : ℕ} where
   write-inside : allDigits l ≡ true → isWrite (length l) ≡ true → Frame.Write (four l 2) ((length l - 6) / 8) ≡ Frame.Write h n → Writes l n
   write-inside d t q =
@@ -285,13 +266,25 @@ module _ (l : List ℕ) {h n : ℕ} where
       let u : k ≤ 326 = leb-true k 326 (and-left (leb k 326) (eqb ((k - 6) % 8) 0) (and-right (leb 6 k) (leb k 326 && eqb ((k - 6) % 8) 0) t)) in
       (d, omega arith, omega arith)
 
+  -- of one of the kinds, the others being no writes
+  write-alone : (b w : Bool) (others : Frame) → allDigits l ≡ true → isWrite (length l) ≡ w → isWriteFrame others ≡ false
+      → cond b (cond w (Frame.Write (four l 2) ((length l - 6) / 8)) Frame.Bad) others ≡ Frame.Write h n → Writes l n
+  write-alone true true others d t o e = write-inside d t e
+  write-alone true false others d t o e = absurd (true≢false (sym (ap isWriteFrame e)))
+  write-alone false w others d t o e = absurd (true≢false (sym (ap isWriteFrame e) ∙ o))
+
   write-shaped : (k : ℕ) → allDigits l ≡ true → shaped k l ≡ Frame.Write h n → Writes l n
-  write-shaped k d q = go (eqb k 0x01) (isWrite (length l)) refl (sym (by-kind l k) ∙ q)
-    where
-      go : (b w : Bool) → isWrite (length l) ≡ w → cond b (cond w (Frame.Write (four l 2) ((length l - 6) / 8)) Frame.Bad) (others l k) ≡ Frame.Write h n → Writes l n
-      go true true t e = write-inside d t e
-      go true false t e = absurd (true≢false (sym (ap isWriteFrame e)))
-      go false w t e = absurd (true≢false (sym (ap isWriteFrame e) ∙ others-none l k))
+  unfolding shaped
+  write-shaped k d q =
+      let m = length l in
+      write-alone (eqb k 0x01) (isWrite m) _ d refl
+      (neither (eqb k 0x02) _ _ (neither (eqb m 6) _ _ refl refl)
+      (neither (eqb k 0x03) _ _ (neither (eqb m 6) _ _ refl refl)
+      (neither (eqb k 0x04) _ _ (neither (eqb m 10) _ _ refl refl)
+      (neither (eqb k 0x05) _ _ (neither (eqb m 2) _ _ refl refl)
+      (neither (eqb k 0x06) _ _ (neither (eqb m 6) _ _ refl refl)
+      (neither (eqb k 0x07) _ _ (neither (eqb m 6) _ _ refl refl) refl))))))
+      q
 
   written : frameOf l ≡ Frame.Write h n → Writes l n
   unfolding frameOf

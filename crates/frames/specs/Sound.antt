@@ -2,7 +2,7 @@
 -- DAMAGED or BADPLACE, number and stores of every answer fit their digits, and nothing is CUT for which no power was named. Assumes nothing.
 use mathlib.Core.Path.{_≡_, refl, ap, sym, _∙_, subst}
 use mathlib.Core.List.{List, [], _∷_}
-use mathlib.Core.Bool.{Bool, true, false, cond, _&&_, and-false, false≢true, true≢false}
+use mathlib.Core.Bool.{Bool, true, false, cond, _&&_, false≢true, true≢false}
 use mathlib.Core.Logic.{_≢_, _⊎_, inl, inr}
 use Prim.Native.Nat.{ℕ, suc, zero, _+_, _-_, _*_, _≤_}
 use native.Mathlib.Omega.{arith}
@@ -36,21 +36,11 @@ use Rattle.frames.specs.declared.Tail.{Tail}
 use Rattle.frames.specs.declared.Reply.{Reply}
 use Rattle.frames.specs.declared.Frame.{Frame}
 use Rattle.frames.specs.Frames.{isDigit, allDigits, value, two, four, eight, wordsFrom, frameOf, dataOf, areaOf, runWords, runOf, withRun, plain, enough, start, readReply, listReply, stored, sizeNamed, formatted, carriedBy, carried}
+use Rattle.frames.specs.Lines.{value-small}
 use Rattle.frames.specs.Stepping.{usable-run}
 use Rattle.frames.specs.Sessions.{lines, by-format, run-own, format-whole}
 
 -- ---- the words of a line are 32-bit words
-value-small : (b : ℕ) → isDigit b ≡ true → value b ≤ 15
-value-small b d = low (leb b 0x39) refl
-  where
-    high : (t : Bool) → leb b 0x46 ≡ t → leb b 0x39 ≡ false → b - 0x37 ≤ 15
-    high true p q = let l = leb-true b 0x46 p in omega arith
-    high false p q = absurd (false≢true (rw (p, q, and-false (leb 0x30 b), and-false (leb 0x41 b)) at d))
-
-    low : (t : Bool) → leb b 0x39 ≡ t → cond t (b - 0x30) (b - 0x37) ≤ 15
-    low true q = let l = leb-true b 0x39 q in omega arith
-    low false q = high (leb b 0x46) refl q
-
 digit-small : (l : List ℕ) (i : ℕ) → allDigits l ≡ true → value (getD l i 0) ≤ 15
 digit-small [] i d = omega arith
 digit-small (b ∷ l) zero d = value-small b (and-left (isDigit b) _ d)
