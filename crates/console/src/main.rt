@@ -13,7 +13,7 @@ use libc::STDIN_FILENO;
 use libc::STDOUT_FILENO;
 
 // How far the input has been taken: the state behind the lines so far, and where the next begins.
-struct Taken {
+struct Progress {
     state: State,
     at: usize,
 }
@@ -44,7 +44,7 @@ fn tell(state: State, flash: &mut [u32], line: &[u8], out: &mut [u8]) -> State
 }
 
 // Carries out the whole lines of a text from a place on.
-fn tell_lines(taken: Taken, flash: &mut [u32], text: &[u8], out: &mut [u8]) -> Taken
+fn tell_lines(taken: Progress, flash: &mut [u32], text: &[u8], out: &mut [u8]) -> Progress
     requires { ⌜ (length (now flash) ≤ 16384) × (0 < length (now out)) × (taken .at ≤ length (now text)) ⌝ }
     ensures { λ r. ⌜ r .at ≤ length (now (text .entry)) ⌝ }
 {
@@ -53,7 +53,7 @@ fn tell_lines(taken: Taken, flash: &mut [u32], text: &[u8], out: &mut [u8]) -> T
     loop {
         let end = at + frames::line_length(&text[at..]);
         if end == text.len() {
-            return Taken { state, at };
+            return Progress { state, at };
         }
         state = tell(state, flash, &text[at..end], out);
         at = end + 1;
@@ -61,7 +61,7 @@ fn tell_lines(taken: Taken, flash: &mut [u32], text: &[u8], out: &mut [u8]) -> T
 }
 
 // The same of a text's first bytes.
-fn tell_first(taken: Taken, flash: &mut [u32], text: &[u8], filled: usize, out: &mut [u8]) -> Taken
+fn tell_first(taken: Progress, flash: &mut [u32], text: &[u8], filled: usize, out: &mut [u8]) -> Progress
     requires { ⌜ (length (now flash) ≤ 16384) × (0 < length (now out)) × (taken .at ≤ filled) × (filled ≤ length (now text)) ⌝ }
     ensures { λ r. ⌜ r .at ≤ filled ⌝ }
 {
@@ -69,7 +69,7 @@ fn tell_first(taken: Taken, flash: &mut [u32], text: &[u8], filled: usize, out: 
 }
 
 // Carries out what is left of a text's first bytes, if there is anything, as a line.
-fn tell_last(taken: Taken, flash: &mut [u32], text: &[u8], filled: usize, out: &mut [u8])
+fn tell_last(taken: Progress, flash: &mut [u32], text: &[u8], filled: usize, out: &mut [u8])
     requires { ⌜ (length (now flash) ≤ 16384) × (0 < length (now out)) × (filled ≤ length (now text)) ⌝ }
 {
     let at = taken.at;
@@ -99,7 +99,7 @@ fn read_into(text: &mut [u8]) -> usize
 fn run(text: &mut [u8], flash: &mut [u32], out: &mut [u8])
     requires { ⌜ (length (now flash) ≤ 16384) × (0 < length (now out)) ⌝ }
 {
-    let mut taken = Taken {
+    let mut taken = Progress {
         state: frames::start(),
         at: 0,
     };

@@ -1,22 +1,23 @@
--- A line's answer, from what the line does and what is said of it; that the promise allows one outcome; and where a line ends: laws.
+-- A line's answer, from what the line does and what is said of it; that the promise allows one outcome; where a line ends; and that the
+-- pieces of an answer are the answer: laws.
 -- Assumes nothing.
-use mathlib.Core.Path.{_≡_, ap, _∙_}
-use mathlib.Core.List.{List}
-use mathlib.Core.Bool.{cond}
-use Prim.Native.Nat.{ℕ, suc, _+_, _≤_, _<_}
+use mathlib.Core.Path.{_≡_, refl, sym, ap, ap₂, _∙_}
+use mathlib.Core.List.{List, [], _∷_, _++_, append-assoc, append-nil}
+use mathlib.Core.Bool.{Bool, true, false, cond}
+use Prim.Native.Nat.{ℕ, suc, zero, _+_, _≤_, _<_}
 use native.Mathlib.Omega.{arith}
 use native.Mathlib.Numerals.{add-one}
-use lib.ListN.{length, getD, drop, drop-of-length-le}
+use lib.ListN.{length, getD, take, drop, length-take, length-drop, take-append-drop, drop-of-length-le}
 use lib.Dec.{eqb}
-use lib.Seq.{drop-cons}
-use borrow.Author.Tests.{eq-eqb, ne-eqb}
+use lib.Seq.{drop-cons, drop-drop, take-at}
+use borrow.Author.Tests.{ltb-false, eq-eqb, ne-eqb}
 use Rattle.flash.specs.Laws.{settled}
 use Rattle.frames.specs.declared.State.{State}
 use Rattle.frames.specs.declared.Reply.{Reply}
 use Rattle.frames.specs.declared.Said.{Said}
 use Rattle.frames.specs.declared.Answered.{Answered}
 use Rattle.frames.specs.declared.carrying.Taken.{Taken}
-use Rattle.frames.specs.Frames.{bytes, carried, newline, Says, Responds, lineLength}
+use Rattle.frames.specs.Frames.{bytes, carried, newline, Says, Responds, lineLength, linesFrom}
 use Rattle.frames.specs.Carrying.{Carries}
 use Rattle.frames.specs.Saying.{says-settles}
 
@@ -66,3 +67,55 @@ module _ {t : List ℕ} {i : ℕ} (e : Ending t i) where
         record { inside = omega arith; same = rw (add-one i) (omega arith) }
 
 pub ruleset endings = (ending-start, ending-inside, ending-last, ending-here, ending-on)
+
+-- a line so far, and what stands before the first newline, is the next line
+cut-at : (l t : List ℕ) → lineLength t < length t → linesFrom l t ≡ (l ++ take (lineLength t) t) ∷ linesFrom [] (drop (suc (lineLength t)) t)
+cut-at l [] h = absurd (omega arith)
+cut-at l (b ∷ t) h = go (eqb b newline) refl (cut-at (l ++ b ∷ []) t)
+  where
+    go : (c : Bool) → eqb b newline ≡ c → (lineLength t < length t → linesFrom (l ++ b ∷ []) t ≡ ((l ++ b ∷ []) ++ take (lineLength t) t) ∷ linesFrom [] (drop (suc (lineLength t)) t))
+        → linesFrom l (b ∷ t) ≡ (l ++ take (lineLength (b ∷ t)) (b ∷ t)) ∷ linesFrom [] (drop (suc (lineLength (b ∷ t))) (b ∷ t))
+    go true q ih = rw q (ap (λ (u : List ℕ). u ∷ linesFrom [] t) (sym (append-nil l)))
+    go false q ih =
+        let k : suc (lineLength t) < suc (length t) = rw q at h in
+        rw q (ih (omega arith) ∙ ap (λ (u : List ℕ). u ∷ linesFrom [] (drop (suc (lineLength t)) t)) (append-assoc l (b ∷ []) (take (lineLength t) t)))
+
+-- without a newline all of it is, if there is anything
+uncut : (l t : List ℕ) → lineLength t ≡ length t → linesFrom l t ≡ linesFrom (l ++ t) []
+uncut l [] h = ap (λ (u : List ℕ). linesFrom u []) (sym (append-nil l))
+uncut l (b ∷ t) h = go (eqb b newline) refl (uncut (l ++ b ∷ []) t)
+  where
+    go : (c : Bool) → eqb b newline ≡ c → (lineLength t ≡ length t → linesFrom (l ++ b ∷ []) t ≡ linesFrom ((l ++ b ∷ []) ++ t) []) → linesFrom l (b ∷ t) ≡ linesFrom (l ++ b ∷ t) []
+    go true q ih = let z : 0 ≡ suc (length t) = rw q at h in absurd (omega arith)
+    go false q ih =
+        let k : suc (lineLength t) ≡ suc (length t) = rw q at h in
+        rw q (ih (omega arith) ∙ ap (λ (u : List ℕ). linesFrom u []) (append-assoc l (b ∷ []) t))
+
+-- the lines of a text are cut where the bytes before its first newline end
+pub first-line : (t : List ℕ) → lineLength t < length t → linesFrom [] t ≡ take (lineLength t) t ∷ linesFrom [] (drop (suc (lineLength t)) t)
+first-line t h = cut-at [] t h
+
+pub last-line : (t : List ℕ) → lineLength t ≡ length t → linesFrom [] t ≡ linesFrom t []
+last-line t h = uncut [] t h
+
+-- ---- pieces: what is in the buffer, and behind it what is left, is what was left before; where there is no more, nothing is
+drop-taken : (n : ℕ) (x : List ℕ) → drop (length (take n x)) x ≡ drop n x
+drop-taken zero x = refl
+drop-taken (suc n) [] = refl
+drop-taken (suc n) (b ∷ x) = drop-taken n x
+
+module _ {t : List ℕ} {from : ℕ} {f g : List ℕ} {r : Said} (s : Says t from f r g) where
+  pub pieces-join : take (r .count) g ++ drop (from + r .count) t ≡ drop from t
+  pieces-join =
+      let x = drop from t in
+      let n = length f in
+      let c : r .count ≡ length (take n x) = s .count in
+      let b : take (r .count) g ≡ take n x = ap (take (r .count)) (s .buffer) ∙ take-at (take n x) (drop (r .count) f) (r .count) (sym c) in
+      let k : drop (from + r .count) t ≡ drop (r .count) x = sym (drop-drop (r .count) from t) in
+      let e : drop (r .count) x ≡ drop n x = ap (λ (u : ℕ). drop u x) c ∙ drop-taken n x in
+      ap₂ _++_ b (k ∙ e) ∙ take-append-drop n x
+
+  pub pieces-end : r .more ≡ false → drop (from + r .count) t ≡ []
+  pieces-end e =
+      let h = ltb-false (length f) (length (drop from t)) (sym (s .more) ∙ e) in
+      drop-of-length-le t {i = from + r .count} (omega (arith, s .count, length-take (length f) (drop from t), length-drop from t))

@@ -22,13 +22,13 @@ use Rattle.frames.specs.declared.Tail.{Tail}
 use Rattle.frames.specs.declared.Reply.{Reply}
 use Rattle.frames.specs.declared.Frame.{Frame}
 use Rattle.frames.specs.declared.carrying.Taken.{Taken}
-use Rattle.frames.specs.Frames.{areaOf, runOf, enough, plain, readReply, readFrame, listReply, listFrame, sizeNamed, shapeAfter, badFrame, isFormat, formatFrame, frameOf, dataOf, Carried, told, stored, carriedBy, carried}
+use Rattle.frames.specs.Frames.{areaOf, runOf, enough, plain, readReply, readFrame, listReply, listFrame, sizeNamed, shapeAfter, badFrame, isFormat, formatFrame, frameOf, lineWords, Effect, told, requested, carriedBy, carried}
 use Rattle.frames.specs.Lines.{written-digits, written-fits, written-few, words-put, words-room}
 use Rattle.frames.specs.Requests.{Makes}
 
 -- ---- the promise
 -- what is taken from a line, r, and the flash that is left, g, are what c says
-pub record Carries (c : Carried) (r : Taken) (g : List ℕ) : Type 0 where
+pub record Carries (c : Effect) (r : Taken) (g : List ℕ) : Type 0 where
   pub state : r .state ≡ c .state
   pub reply : r .reply ≡ c .reply
   pub flash : g ≡ c .flash
@@ -80,12 +80,12 @@ module _ (s : State) where
   pub spends : {x : Answer} {r : Reply} → r ≡ plain (answerNumber x) (answerStores x) → Spends s x (record { state = record { shape = s .shape; power = enough }; reply = r })
   spends e = record { is = rw e }
 
-  pub tells : {p r : Reply} → r ≡ p → Tells s p (record { state = s; reply = r })
-  tells e = record { is = rw e }
+  pub tells-reply : {p r : Reply} → r ≡ p → Tells s p (record { state = s; reply = r })
+  tells-reply e = record { is = rw e }
 
   module _ (f : List ℕ) where
-    pub carries-stored : {q : Request} {x : Answer} {g : List ℕ} {r : Taken} → Makes (s .shape) q (s .power) f x g → Spends s x r → Carries (stored s f q) r g
-    carries-stored m p =
+    pub carries-request : {q : Request} {x : Answer} {g : List ℕ} {r : Taken} → Makes (s .shape) q (s .power) f x g → Spends s x r → Carries (requested s f q) r g
+    carries-request m p =
         record {
           state = ap (λ (u : Taken). u .state) (p .is);
           reply = ap (λ (u : Taken). u .reply) (p .is) ∙ ap (λ (u : Answer). plain (answerNumber u) (answerStores u)) (m .answer);
@@ -99,10 +99,10 @@ module _ (s : State) where
         → Carries (listFrame s f mask pattern) (record { state = s; reply = r }) f
     carries-list mask pattern e q = record { state = refl; reply = q ∙ ap (listReply (s .shape) mask pattern) e; flash = refl }
 
-    pub carries-write : {x : Answer} {g w : List ℕ} {r : Taken} (l v : List ℕ) (h n : ℕ) → w ≡ dataOf l n ++ v → Makes (s .shape) (write h (take n w)) (s .power) f x g → Spends s x r
-        → Carries (stored s f (write h (dataOf l n))) r g
+    pub carries-write : {x : Answer} {g w : List ℕ} {r : Taken} (l v : List ℕ) (h n : ℕ) → w ≡ lineWords l n ++ v → Makes (s .shape) (write h (take n w)) (s .power) f x g → Spends s x r
+        → Carries (requested s f (write h (lineWords l n))) r g
     carries-write {x} {g} l v h n e m p =
-        carries-stored (subst (λ (u : List ℕ). Makes (s .shape) (write h u) (s .power) f x g) (words-put l v n e) m) p
+        carries-request (subst (λ (u : List ℕ). Makes (s .shape) (write h u) (s .power) f x g) (words-put l v n e) m) p
 
     module _ {b : Bool} (n size : ℕ) (o : b ≡ isFormat n size) where
       pub no-format : {m : ℕ} {r : Reply} → b ≡ false → m ≡ refusalNumber Geometry → r ≡ plain m 0 → Carries (formatFrame s f n size) (record { state = s; reply = r }) f
@@ -122,7 +122,7 @@ module _ (s : State) where
             flash = k .flash;
           })
 
-pub ruleset carries = (spends, tells, carries-stored, carries-read, carries-list)
+pub ruleset carries = (spends, tells-reply, carries-request, carries-read, carries-list)
 
 pub ruleset writeCarries = (written-digits, written-fits, written-few, words-room, length-take-le, carries-write)
 
@@ -137,19 +137,19 @@ module _ {w : Frame} {r : Taken} {g : List ℕ} (s : State) (f l : List ℕ) (e 
   unfolding carried
   frame-by v q c = subst (λ (u : Frame). Carries (carriedBy s f l u) r g) (sym q ∙ e) c
 
-  pub by-write : {h n : ℕ} → w ≡ Frame.Write h n → Carries (stored s f (write h (dataOf l n))) r g → Carries (carried s f l) r g
+  pub by-write : {h n : ℕ} → w ≡ Frame.Write h n → Carries (requested s f (write h (lineWords l n))) r g → Carries (carried s f l) r g
   by-write {h} {n} q c = frame-by (Frame.Write h n) q c
 
   pub by-read : {h : ℕ} → w ≡ Frame.Read h → Carries (readFrame s f h) r g → Carries (carried s f l) r g
   by-read {h} q c = frame-by (Frame.Read h) q c
 
-  pub by-delete : {h : ℕ} → w ≡ Frame.Delete h → Carries (stored s f (delete h)) r g → Carries (carried s f l) r g
+  pub by-delete : {h : ℕ} → w ≡ Frame.Delete h → Carries (requested s f (delete h)) r g → Carries (carried s f l) r g
   by-delete {h} q c = frame-by (Frame.Delete h) q c
 
   pub by-list : {mask pattern : ℕ} → w ≡ Frame.List mask pattern → Carries (listFrame s f mask pattern) r g → Carries (carried s f l) r g
   by-list {mask} {pattern} q c = frame-by (Frame.List mask pattern) q c
 
-  pub by-recover : w ≡ Frame.Recover → Carries (stored s f recover) r g → Carries (carried s f l) r g
+  pub by-recover : w ≡ Frame.Recover → Carries (requested s f recover) r g → Carries (carried s f l) r g
   by-recover q c = frame-by Frame.Recover q c
 
   pub by-format : {n size : ℕ} → w ≡ Frame.Format n size → Carries (formatFrame s f n size) r g → Carries (carried s f l) r g
@@ -159,7 +159,7 @@ module _ {w : Frame} {r : Taken} (s : State) (f l : List ℕ) (e : w ≡ frameOf
   told-by : {p : State} {q : Reply} (v : Frame) → w ≡ v → carriedBy s f l v ≡ told p f q → Tells p q r → Carries (carried s f l) r f
   told-by {p} {q} v d k t =
       let c : Carries (told p f q) r f = record { state = ap (λ (u : Taken). u .state) (t .is); reply = ap (λ (u : Taken). u .reply) (t .is); flash = refl } in
-      frame-by s f l e v d (subst (λ (u : Carried). Carries u r f) (sym k) c)
+      frame-by s f l e v d (subst (λ (u : Effect). Carries u r f) (sym k) c)
 
   pub by-power : {k : ℕ} → w ≡ Frame.Power k → Tells (record { shape = s .shape; power = k }) (plain 0 0) r → Carries (carried s f l) r f
   by-power {k} q t = told-by (Frame.Power k) q refl t

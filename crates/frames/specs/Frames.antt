@@ -73,10 +73,11 @@ unfoldable pub frameOf : List ℕ → Frame
 frameOf l = cond (leb 2 (length l) && allDigits l) (shaped (two l 0) l) Frame.Bad
 
 -- the words of a write of n words
-unfoldable pub dataOf : List ℕ → ℕ → List ℕ
-dataOf l n = wordsFrom l n 6
+unfoldable pub lineWords : List ℕ → ℕ → List ℕ
+lineWords l n = wordsFrom l n 6
 
 -- ---- answers as bytes
+-- the digit of a number below 16
 abbrev pub digit : ℕ → ℕ
 digit n = cond (ltb n 10) (0x30 + n) (0x37 + n)
 
@@ -119,14 +120,14 @@ handles mask pattern [] = []
 handles mask pattern (e ∷ es) = cond (matches mask pattern e) (e .handle ∷ handles mask pattern es) (handles mask pattern es)
 
 -- in area order; none if there is no such area
-unfoldable pub listed : Shape → ℕ → ℕ → List ℕ → List ℕ
-listed a mask pattern f = let r = runOf a f in cond (wrongGeometry (areaOf a) r) [] (handles mask pattern (entries (areaOf a) r))
+unfoldable pub listHandles : Shape → ℕ → ℕ → List ℕ → List ℕ
+listHandles a mask pattern f = let r = runOf a f in cond (wrongGeometry (areaOf a) r) [] (handles mask pattern (entries (areaOf a) r))
 
 -- ---- an answer line
 abbrev pub tailBytes : Tail → List ℕ → List ℕ
 tailBytes Tail.Nothing f = []
 tailBytes (Tail.Words p n) f = eights (take n (drop (suc p) f))
-tailBytes (Tail.Handles a mask pattern) f = fours (listed a mask pattern f)
+tailBytes (Tail.Handles a mask pattern) f = fours (listHandles a mask pattern f)
 
 abbrev pub newline : ℕ
 newline = 0x0A
@@ -136,7 +137,7 @@ unfoldable pub bytes : Reply → List ℕ → List ℕ
 bytes r f = twoDigits (r .number) ++ (fourDigits (r .stores) ++ (tailBytes (r .tail) f ++ newline ∷ []))
 
 -- ---- what a frame does
-pub record Carried : Type 0 where
+pub record Effect : Type 0 where
   pub state : State
   pub reply : Reply
   pub flash : List ℕ
@@ -154,8 +155,8 @@ enough = 0xFFFFFFFF
 abbrev pub start : State
 start = record { shape = record { pages = 0; size = Small }; power = enough }
 
--- no store made, state and flash as they were
-abbrev pub told : State → List ℕ → Reply → Carried
+-- no store made, the flash as it was
+abbrev pub told : State → List ℕ → Reply → Effect
 told s f r = record { state = s; reply = r; flash = f }
 
 -- read: its words
@@ -163,7 +164,7 @@ abbrev pub readReply : Reading → Reply
 readReply (Reading.At p n) = record { number = 0x00; stores = 0; tail = Tail.Words p n }
 readReply (Reading.Refused n) = plain (refusalNumber n) 0
 
-abbrev pub readFrame : State → List ℕ → ℕ → Carried
+abbrev pub readFrame : State → List ℕ → ℕ → Effect
 readFrame s f h = told s f (readReply (readOf (areaOf (s .shape)) h (runOf (s .shape) f)))
 
 -- list: what a search from 0 gives, but the handles of all its matches
@@ -171,12 +172,12 @@ abbrev pub listReply : Shape → ℕ → ℕ → Yielded → Reply
 listReply a mask pattern (Yielded.At p) = record { number = 0x00; stores = 0; tail = Tail.Handles a mask pattern }
 listReply a mask pattern (Yielded.Refused n) = plain (refusalNumber n) 0
 
-abbrev pub listFrame : State → List ℕ → ℕ → ℕ → Carried
+abbrev pub listFrame : State → List ℕ → ℕ → ℕ → Effect
 listFrame s f mask pattern = told s f (listReply (s .shape) mask pattern (searchOf (areaOf (s .shape)) mask pattern 0 (runOf (s .shape) f)))
 
 -- write, delete, recover: with the power named for it, which is then spent
-abbrev pub stored : State → List ℕ → Request → Carried
-stored s f r =
+abbrev pub requested : State → List ℕ → Request → Effect
+requested s f r =
     let a = s .shape in
     let o = outcome (planOf (areaOf a) r) (s .power) (runOf a f) in
     record { state = record { shape = a; power = enough }; reply = plain (answerNumber (o .answer)) (answerStores (o .answer)); flash = withRun a f (o .flash) }
@@ -190,8 +191,8 @@ shapeAfter old new (Answer.Done n) = new
 shapeAfter old new (Answer.Cut n) = old
 shapeAfter old new (Answer.Refused n) = old
 
-abbrev pub formatted : State → List ℕ → Shape → Carried
-formatted s f a =
+abbrev pub formatArea : State → List ℕ → Shape → Effect
+formatArea s f a =
     let o = outcome (planOf (areaOf a) format) enough (runOf a f) in
     record {
       state = record { shape = shapeAfter (s .shape) a (o .answer); power = s .power };
@@ -203,26 +204,53 @@ formatted s f a =
 abbrev pub isFormat : ℕ → ℕ → Bool
 isFormat n size = leb 1 n && (leb n 15 && leb size 2)
 
-abbrev pub formatFrame : State → List ℕ → ℕ → ℕ → Carried
-formatFrame s f n size = cond (isFormat n size) (formatted s f (record { pages = n; size = sizeNamed size })) (told s f (plain (refusalNumber Geometry) 0))
+abbrev pub formatFrame : State → List ℕ → ℕ → ℕ → Effect
+formatFrame s f n size = cond (isFormat n size) (formatArea s f (record { pages = n; size = sizeNamed size })) (told s f (plain (refusalNumber Geometry) 0))
 
 -- of each kind
-abbrev pub carriedBy : State → List ℕ → List ℕ → Frame → Carried
-carriedBy s f l (Frame.Write h n) = stored s f (write h (dataOf l n))
+abbrev pub carriedBy : State → List ℕ → List ℕ → Frame → Effect
+carriedBy s f l (Frame.Write h n) = requested s f (write h (lineWords l n))
 carriedBy s f l (Frame.Read h) = readFrame s f h
-carriedBy s f l (Frame.Delete h) = stored s f (delete h)
+carriedBy s f l (Frame.Delete h) = requested s f (delete h)
 carriedBy s f l (Frame.List mask pattern) = listFrame s f mask pattern
-carriedBy s f l Frame.Recover = stored s f recover
+carriedBy s f l Frame.Recover = requested s f recover
 carriedBy s f l (Frame.Power k) = told (record { shape = s .shape; power = k }) f (plain 0x00 0)
 carriedBy s f l (Frame.Format n size) = formatFrame s f n size
 carriedBy s f l Frame.Bad = told s f (plain badFrame 0)
 
 -- a line, in a state and with a flash
-unfoldable pub carried : State → List ℕ → List ℕ → Carried
+unfoldable pub carried : State → List ℕ → List ℕ → Effect
 carried s f l = carriedBy s f l (frameOf l)
 
+-- ---- a whole input
+-- the bytes of a text before its first newline
+abbrev pub lineLength : List ℕ → ℕ
+lineLength [] = 0
+lineLength (b ∷ t) = cond (eqb b newline) 0 (suc (lineLength t))
+
+-- the lines of bytes behind those of a line so far; text behind the last newline is a line if there is any
+abbrev pub linesFrom : List ℕ → List ℕ → List (List ℕ)
+linesFrom [] [] = []
+linesFrom (c ∷ l) [] = (c ∷ l) ∷ []
+linesFrom l (b ∷ bs) = cond (eqb b newline) (l ∷ linesFrom [] bs) (linesFrom (l ++ b ∷ []) bs)
+
+-- as many bytes of an input as are read
+abbrev pub limit : ℕ
+limit = 65536
+
+unfoldable pub lines : List ℕ → List (List ℕ)
+lines input = linesFrom [] (take limit input)
+
+-- each line is carried out in the state and with the flash that the line before left, and its answer told
+abbrev pub answers : State → List ℕ → List (List ℕ) → List ℕ
+answers s f [] = []
+answers s f (l ∷ ls) = let c = carried s f l in bytes (c .reply) (c .flash) ++ answers (c .state) (c .flash) ls
+
+unfoldable pub session : State → List ℕ → List ℕ → List ℕ
+session s f input = answers s f (lines input)
+
 -- ---- an answer, piece by piece
--- the bytes of a text that a buffer of so many bytes has room for, from one on
+-- the bytes of a text, from a given one on, that a buffer of so many bytes has room for
 abbrev pub pieceOf : List ℕ → ℕ → ℕ → List ℕ
 pieceOf t from room = take room (drop from t)
 
@@ -239,8 +267,3 @@ pub record Responds (s : State) (f l o : List ℕ) (r : Answered) (g p : List �
   pub reply : r .reply ≡ carried s f l .reply
   pub flash : g ≡ carried s f l .flash
   pub said : Says (bytes (carried s f l .reply) (carried s f l .flash)) 0 o (r .said) p
-
--- the bytes of a text before its first newline
-abbrev pub lineLength : List ℕ → ℕ
-lineLength [] = 0
-lineLength (b ∷ t) = cond (eqb b newline) 0 (suc (lineLength t))

@@ -7,5 +7,5 @@ pub mod Saying
 pub mod Stepping
 pub mod Sessions
 pub mod Listing
-pub mod Sound
+pub mod Steady
 pub mod Answering

@@ -12,7 +12,7 @@ use lib.Seq.{drop-cons, set-at, take-at}
 use borrow.Author.Tests.{leb-true, le-leb, lt-leb, ne-eqb, not-true, not-false}
 use Rattle.rules.specs.Laws.{and-left, and-right}
 use Rattle.frames.specs.declared.Frame.{Frame}
-use Rattle.frames.specs.Frames.{isDigit, allDigits, value, two, four, eight, wordsFrom, isWrite, shaped, frameOf, dataOf}
+use Rattle.frames.specs.Frames.{isDigit, allDigits, value, two, four, eight, wordsFrom, isWrite, shaped, frameOf, lineWords}
 
 -- ---- all are digits up to a place: those from it on decide
 pub record Digits (l : List ℕ) (i : ℕ) : Type 0 where
@@ -233,8 +233,8 @@ module _ {l v : List ℕ} {n i : ℕ} {w : List ℕ} (f : Filling l v n i w) whe
             ∙ ap (λ (k : ℕ). wordsFrom l k 6 ++ drop k v) (sym (add-one i));
       }
 
-  pub filling-end : n ≤ i → w ≡ dataOf l n ++ drop n v
-  unfolding dataOf
+  pub filling-end : n ≤ i → w ≡ lineWords l n ++ drop n v
+  unfolding lineWords
   filling-end h = let d = f .done in let e : i ≡ n = omega arith in rw e at (f .same)
 
 pub ruleset fillings = (filling-start, filling-on, filling-end)
@@ -304,10 +304,10 @@ module _ (l : List ℕ) {h n : ℕ} where
   written-few q = written q .2
 
 -- the words that were put are the first of the buffer
-pub words-put : {w : List ℕ} (l v : List ℕ) (n : ℕ) → w ≡ dataOf l n ++ v → take n w ≡ dataOf l n
-unfolding dataOf
+pub words-put : {w : List ℕ} (l v : List ℕ) (n : ℕ) → w ≡ lineWords l n ++ v → take n w ≡ lineWords l n
+unfolding lineWords
 words-put {w} l v n e = ap (take n) e ∙ take-at (wordsFrom l n 6) v n (words-length l n 6)
 
-pub words-room : {w : List ℕ} (l v : List ℕ) (n : ℕ) → w ≡ dataOf l n ++ v → n ≤ length w
-unfolding dataOf
+pub words-room : {w : List ℕ} (l v : List ℕ) (n : ℕ) → w ≡ lineWords l n ++ v → n ≤ length w
+unfolding lineWords
 words-room {w} l v n e = omega (arith, ap length e, length-append (wordsFrom l n 6) v, words-length l n 6)

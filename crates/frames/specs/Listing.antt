@@ -12,8 +12,7 @@ use Rattle.rules.specs.Areas.{base, page, recoveryOf, entries, damaged, ready, 
 use Rattle.rules.specs.Refusals.{wrongGeometry, unready, holds, noRoom}
 use Rattle.rules.specs.Lists.{liveCodes, leavesRoom, roomPage, makesRoom, compactPage}
 use Rattle.rules.specs.Search.{next, badPlace}
-use Rattle.frames.specs.Frames.{two, four, eight, shaped, frameOf, dataOf, twoDigits, fourDigits, eightDigits, runWords, runOf, withRun, listed, newline, bytes, start, carried}
-use Rattle.frames.specs.Sessions.{lines, session}
+use Rattle.frames.specs.Frames.{two, four, eight, shaped, frameOf, lineWords, twoDigits, fourDigits, eightDigits, runWords, runOf, withRun, listHandles, newline, bytes, start, carried, lines, session}
 
 -- ---- cases, as pairs of a line and its answer
 abbrev codes : String → List ℕ
@@ -34,7 +33,7 @@ printed (x ∷ xs) = ended (x .1) ++ printed xs
 
 -- what is printed for an input, on a flash of 128 blank words, which an area of one page of the smallest size fills
 unfoldable pub comes : List ℕ → List ℕ
-unfolding stored wiped madeFirst meta1 indexOf header begins items rest stop metaRight kindOf base page recoveryOf entries damaged ready mapOf wrongGeometry unready holds noRoom liveCodes leavesRoom roomPage makesRoom compactPage next badPlace two four eight shaped frameOf dataOf twoDigits fourDigits eightDigits runWords runOf withRun listed bytes carried lines session
+unfolding stored wiped madeFirst meta1 indexOf header begins items rest stop metaRight kindOf base page recoveryOf entries damaged ready mapOf wrongGeometry unready holds noRoom liveCodes leavesRoom roomPage makesRoom compactPage next badPlace two four eight shaped frameOf lineWords twoDigits fourDigits eightDigits runWords runOf withRun listHandles bytes carried lines session
 comes input = session start (replicate 128 blank) input
 
 -- ---- the whole listing
@@ -215,9 +214,9 @@ unfolding comes
 edges = refl
 
 -- text behind the last newline, and none; a whole input and all that is printed
-abbrev texts : List (String × String)
-texts = ("", "") ∷ ("\n", "0A0000\n") ∷ ("05", "010000\n") ∷ ("05\n", "010000\n") ∷ ("05\n\n060001", "010000\n0A0000\n000000\n") ∷ []
+abbrev last-lines : List (String × String)
+last-lines = ("", "") ∷ ("\n", "0A0000\n") ∷ ("05", "010000\n") ∷ ("05\n", "010000\n") ∷ ("05\n\n060001", "010000\n0A0000\n000000\n") ∷ []
 
-pub ends : map (λ x. comes (codes (x .0))) texts ≡ map (λ x. codes (x .1)) texts
+pub ends : map (λ x. comes (codes (x .0))) last-lines ≡ map (λ x. codes (x .1)) last-lines
 unfolding comes
 ends = refl

@@ -26,7 +26,7 @@ use Rattle.frames.specs.declared.Tail.{Tail}
 use Rattle.frames.specs.declared.Reply.{Reply}
 use Rattle.frames.specs.declared.Said.{Said}
 use Rattle.frames.specs.declared.saying.Pen.{Pen}
-use Rattle.frames.specs.Frames.{digit, twoDigits, fourDigits, eightDigits, eights, areaOf, fours, handles, listed, tailBytes, newline, bytes, pieceOf, Says}
+use Rattle.frames.specs.Frames.{digit, twoDigits, fourDigits, eightDigits, eights, areaOf, fours, handles, listHandles, tailBytes, newline, bytes, pieceOf, Says}
 use Rattle.frames.specs.Shapes.{RunEnd}
 
 -- ---- a pen on its buffer
@@ -129,7 +129,7 @@ module _ (n : ℕ) {p q r : Pen} {f g h : List ℕ} where
   unfolding eightDigits
   wrote-eight u v = wrote-append u v
 
-pub ruleset digits = (digit-low, digit-high, wrote-two, wrote-four, wrote-eight)
+pub ruleset digitTexts = (digit-low, digit-high, wrote-two, wrote-four, wrote-eight)
 
 -- ---- a text written part by part: with what is still to be written of it, it is what has been begun with the pen p₀ on the buffer f₀
 pub record Writing (t : List ℕ) (p₀ : Pen) (f₀ : List ℕ) (rest : List ℕ) (p : Pen) (f : List ℕ) : Type 0 where
@@ -237,15 +237,15 @@ pub ruleset parts = (part-none, part-cut)
 -- the handles of a shape's area, by what a function has found of its run
 module _ {a : Shape} {f run : List ℕ} {end : ℕ} {area : Area} {b : Bool} (mask pattern : ℕ) (e : RunEnd a f end) (cut : run ≡ take end f) (is : area ≡ areaOf a)
     (q : b ≡ wrongGeometry area run) where
-  by-run : listed a mask pattern f ≡ cond b [] (handles mask pattern (entries area run))
-  unfolding listed
+  by-run : listHandles a mask pattern f ≡ cond b [] (handles mask pattern (entries area run))
+  unfolding listHandles
   by-run = rw (q, is, cut, e .run)
 
-  pub listed-none : {p : Pen} {o : List ℕ} → b ≡ true → Wrote (fours (listed a mask pattern f)) p o p o
-  listed-none t = rw (by-run, t) wrote-none
+  pub none-listed : {p : Pen} {o : List ℕ} → b ≡ true → Wrote (fours (listHandles a mask pattern f)) p o p o
+  none-listed t = rw (by-run, t) wrote-none
 
-  pub listed-all : {p r : Pen} {o g : List ℕ} → b ≡ false → Wrote (fours (handles mask pattern (entries area run))) p o r g → Wrote (fours (listed a mask pattern f)) p o r g
-  listed-all t w = rw (by-run, t) w
+  pub handles-listed : {p r : Pen} {o g : List ℕ} → b ≡ false → Wrote (fours (handles mask pattern (entries area run))) p o r g → Wrote (fours (listHandles a mask pattern f)) p o r g
+  handles-listed t w = rw (by-run, t) w
 
 module _ {t : Tail} (f : List ℕ) {p : Pen} {o : List ℕ} where
   pub tail-nothing : t ≡ Tail.Nothing → Wrote (tailBytes t f) p o p o
@@ -254,10 +254,10 @@ module _ {t : Tail} (f : List ℕ) {p : Pen} {o : List ℕ} where
   pub tail-words : {place n : ℕ} {ws : List ℕ} {q : Pen} {g : List ℕ} → t ≡ Tail.Words place n → ws ≡ take n (drop (suc place) f) → Wrote (eights ws) p o q g → Wrote (tailBytes t f) p o q g
   tail-words e d w = rw (e, ← d) w
 
-  pub tail-handles : {a : Shape} {mask pattern : ℕ} {q : Pen} {g : List ℕ} → t ≡ Tail.Handles a mask pattern → Wrote (fours (listed a mask pattern f)) p o q g → Wrote (tailBytes t f) p o q g
+  pub tail-handles : {a : Shape} {mask pattern : ℕ} {q : Pen} {g : List ℕ} → t ≡ Tail.Handles a mask pattern → Wrote (fours (listHandles a mask pattern f)) p o q g → Wrote (tailBytes t f) p o q g
   tail-handles e w = rw e w
 
-pub ruleset tails = (geometry-right, listed-none, listed-all, tail-nothing, tail-words, tail-handles)
+pub ruleset tails = (geometry-right, none-listed, handles-listed, tail-nothing, tail-words, tail-handles)
 
 -- ---- what was written in all
 -- of a text on the sheet s that is the sheet z then: behind the bytes that were used comes the piece that there was room for

@@ -1,5 +1,5 @@
--- A whole input of the console: its lines, and what is printed for them, as document 01, "The console", has it; and laws of a line's
--- answer. Assumes nothing.
+-- Laws of a line's answer and of a whole input: what the power and the area are behind a line, how long an answer is, and that each line
+-- has one answer line. Assumes nothing.
 use mathlib.Core.Path.{_≡_, refl, ap, sym, _∙_, subst}
 use mathlib.Core.Logic.{_≢_}
 use mathlib.Core.List.{List, [], _∷_, _++_, append-assoc, append-nil}
@@ -24,30 +24,7 @@ use Rattle.frames.specs.declared.State.{State}
 use Rattle.frames.specs.declared.Tail.{Tail}
 use Rattle.frames.specs.declared.Reply.{Reply}
 use Rattle.frames.specs.declared.Frame.{Frame}
-use Rattle.frames.specs.Frames.{isDigit, allDigits, value, two, four, eight, frameOf, digit, twoDigits, fourDigits, eightDigits, eights, fours, areaOf, runWords, runOf, withRun, handles, listed, tailBytes, newline, bytes, plain, enough, start, Carried, told, sizeNamed, formatted, isFormat, carriedBy, carried}
-
--- ---- lines
--- the lines of bytes behind those of a line so far; text behind the last newline is a line if there is any
-abbrev pub linesFrom : List ℕ → List ℕ → List (List ℕ)
-linesFrom [] [] = []
-linesFrom (c ∷ l) [] = (c ∷ l) ∷ []
-linesFrom l (b ∷ bs) = cond (eqb b newline) (l ∷ linesFrom [] bs) (linesFrom (l ++ b ∷ []) bs)
-
--- as many bytes of an input as are read
-abbrev pub limit : ℕ
-limit = 65536
-
-unfoldable pub lines : List ℕ → List (List ℕ)
-lines input = linesFrom [] (take limit input)
-
--- ---- what is printed
--- each line is carried out in the state and with the flash that the line before left, and its answer told
-abbrev pub answers : State → List ℕ → List (List ℕ) → List ℕ
-answers s f [] = []
-answers s f (l ∷ ls) = let c = carried s f l in bytes (c .reply) (c .flash) ++ answers (c .state) (c .flash) ls
-
-unfoldable pub session : State → List ℕ → List ℕ → List ℕ
-session s f input = answers s f (lines input)
+use Rattle.frames.specs.Frames.{isDigit, allDigits, value, two, four, eight, frameOf, digit, twoDigits, fourDigits, eightDigits, eights, fours, areaOf, runWords, runOf, withRun, handles, listHandles, tailBytes, newline, bytes, plain, enough, start, Effect, told, sizeNamed, formatArea, isFormat, carriedBy, carried, linesFrom, limit, lines, answers, session}
 
 -- ---- the input
 -- what stands past the limit is not read
@@ -62,11 +39,11 @@ run-own a f = take-append-drop (runWords a) f
 
 -- ---- formats
 -- one that is well-formed is carried out on at most 15 pages, or refused for its geometry
-pub by-format : (P : Carried → Type 0) (s : State) (f l : List ℕ) (n size : ℕ) → (n ≤ 15 → P (formatted s f (record { pages = n; size = sizeNamed size })))
+pub format-cases : (P : Effect → Type 0) (s : State) (f l : List ℕ) (n size : ℕ) → (n ≤ 15 → P (formatArea s f (record { pages = n; size = sizeNamed size })))
     → P (told s f (plain 0x01 0)) → P (carriedBy s f l (Frame.Format n size))
-by-format P s f l n size p q = go (isFormat n size) refl
+format-cases P s f l n size p q = go (isFormat n size) refl
   where
-    go : (b : Bool) → isFormat n size ≡ b → P (cond b (formatted s f (record { pages = n; size = sizeNamed size })) (told s f (plain 0x01 0)))
+    go : (b : Bool) → isFormat n size ≡ b → P (cond b (formatArea s f (record { pages = n; size = sizeNamed size })) (told s f (plain 0x01 0)))
     go true e = p (leb-true n 15 (and-left (leb n 15) _ (and-right (leb 1 n) _ e)))
     go false e = q
 
@@ -75,18 +52,18 @@ pub format-whole : (a : Shape) (f : List ℕ) → a .pages ≤ 15 → leb (lengt
 format-whole a f h = let e = format-length (areaOf a) (runOf a f) in le-leb (length (formatList (areaOf a) (runOf a f))) enough (omega arith)
 
 -- one that is not DONE leaves state and flash
-abbrev Leaves : State → List ℕ → Carried → Type 0
+abbrev Leaves : State → List ℕ → Effect → Type 0
 Leaves s f c = c .reply .number ≢ 0x00 → (c .state ≡ s) × (c .flash ≡ f)
 
 pub refused-format : (s : State) (f l : List ℕ) (n size : ℕ) → frameOf l ≡ Frame.Format n size → carried s f l .reply .number ≢ 0x00
     → (carried s f l .state ≡ s) × (carried s f l .flash ≡ f)
 unfolding carried
-refused-format s f l n size e = subst (λ (x : Frame). Leaves s f (carriedBy s f l x)) (sym e) (by-format (Leaves s f) s f l n size (planned (wrongGeometry (areaOf a) (runOf a f)) refl) (λ m. (refl, refl)))
+refused-format s f l n size e = subst (λ (x : Frame). Leaves s f (carriedBy s f l x)) (sym e) (format-cases (Leaves s f) s f l n size (planned (wrongGeometry (areaOf a) (runOf a f)) refl) (λ m. (refl, refl)))
   where
     a : Shape
     a = record { pages = n; size = sizeNamed size }
 
-    planned : (b : Bool) → wrongGeometry (areaOf a) (runOf a f) ≡ b → n ≤ 15 → Leaves s f (formatted s f a)
+    planned : (b : Bool) → wrongGeometry (areaOf a) (runOf a f) ≡ b → n ≤ 15 → Leaves s f (formatArea s f a)
     planned true q h m = rw q (refl, run-own a f)
     planned false q h m = absurd (m (rw (q, format-whole a f h)))
 
@@ -138,7 +115,7 @@ power-after s f l = go (frameOf l)
     go (Frame.List mask pattern) = refl
     go Frame.Recover = refl
     go (Frame.Power j) = refl
-    go (Frame.Format n size) = by-format (λ c. c .state .power ≡ s .power) s f l n size (λ h. refl) refl
+    go (Frame.Format n size) = format-cases (λ c. c .state .power ≡ s .power) s f l n size (λ h. refl) refl
     go Frame.Bad = refl
 
 -- ---- before a format
@@ -193,7 +170,7 @@ answer-plain s f l = go (frameOf l)
     go (Frame.List mask pattern) e = absurd (true≢false e)
     go Frame.Recover e = refl
     go (Frame.Power k) e = refl
-    go (Frame.Format n size) e = by-format (λ c. c .reply .tail ≡ Tail.Nothing) s f l n size (λ h. refl) refl
+    go (Frame.Format n size) e = format-cases (λ c. c .reply .tail ≡ Tail.Nothing) s f l n size (λ h. refl) refl
     go Frame.Bad e = refl
 
 -- seven, with those of what comes behind number and stores
@@ -234,8 +211,8 @@ entries-inside : {a : Area} {f : List ℕ} → Right a f → length (entries a f
 unfolding base
 entries-inside {a} {f} r = omega (arith, entries-few a f, base-suc a (a .pages), r .long)
 
-listed-few : (a : Shape) (mask pattern : ℕ) (f : List ℕ) → length (listed a mask pattern f) ≤ length f
-unfolding listed
+listed-few : (a : Shape) (mask pattern : ℕ) (f : List ℕ) → length (listHandles a mask pattern f) ≤ length f
+unfolding listHandles
 listed-few a mask pattern f = go (wrongGeometry (areaOf a) (runOf a f)) refl
   where
     go : (b : Bool) → wrongGeometry (areaOf a) (runOf a f) ≡ b → length (cond b [] (handles mask pattern (entries (areaOf a) (runOf a f)))) ≤ length f
@@ -245,7 +222,7 @@ listed-few a mask pattern f = go (wrongGeometry (areaOf a) (runOf a f)) refl
 tail-few : (t : Tail) (f : List ℕ) → length (tailBytes t f) ≤ 8 * length f
 tail-few Tail.Nothing f = zero-le
 tail-few (Tail.Words p n) f = omega (arith, eights-length (take n (drop (suc p) f)), length-take n (drop (suc p) f), length-drop (suc p) f)
-tail-few (Tail.Handles a mask pattern) f = omega (arith, fours-length (listed a mask pattern f), listed-few a mask pattern f)
+tail-few (Tail.Handles a mask pattern) f = omega (arith, fours-length (listHandles a mask pattern f), listed-few a mask pattern f)
 
 pub bytes-few : (r : Reply) (f : List ℕ) → length (bytes r f) ≤ 7 + 8 * length f
 bytes-few r f = omega (arith, answer-length r f, tail-few (r .tail) f)
@@ -287,7 +264,7 @@ fours-digits (h ∷ hs) = digits-append (fourDigits h) (fours hs) (four-digits h
 tail-digits : (t : Tail) (f : List ℕ) → allDigits (tailBytes t f) ≡ true
 tail-digits Tail.Nothing f = refl
 tail-digits (Tail.Words p n) f = eights-digits (take n (drop (suc p) f))
-tail-digits (Tail.Handles a mask pattern) f = fours-digits (listed a mask pattern f)
+tail-digits (Tail.Handles a mask pattern) f = fours-digits (listHandles a mask pattern f)
 
 -- the digits of an answer
 abbrev pub textOf : Reply → List ℕ → List ℕ

@@ -31,7 +31,7 @@ use Rattle.demands.specs.Settled.{Settled, ready-settled, ready-sound, ready-pa
 use Rattle.demands.specs.Reading.{Grow, end, step, grow-lower, grow-behind, grow-entries, place-some, stands, read-held, held-read, entry-place, searched}
 use Rattle.frames.specs.declared.Shape.{Shape}
 use Rattle.frames.specs.declared.Reply.{Reply}
-use Rattle.frames.specs.Frames.{areaOf, runWords, runOf, handles, eights, fours, listed, tailBytes, readReply, listReply}
+use Rattle.frames.specs.Frames.{areaOf, runWords, runOf, handles, eights, fours, listHandles, tailBytes, readReply, listReply}
 
 -- ---- the steps of a search
 -- a search of an area and its run, behind a place; from 0 it is opened
@@ -241,9 +241,9 @@ usable-run a w q = record { words = words-take (runWords a) w; right = q }
 -- ---- a list
 module _ (a : Shape) {f : List ℕ} (w : Words f) (mask pattern : ℕ) where
   -- of so many steps as there are handles, or more
-  listed-all : (q n : ℕ) → stepOf (listSearch a f mask pattern) ≡ Yielded.At q → length (listed a mask pattern f) ≤ n
-      → (listed a mask pattern f ≡ yields n (listSearch a f mask pattern)) × (stepOf (after n (listSearch a f mask pattern)) ≡ Yielded.Refused NotFound)
-  unfolding listed
+  listed-all : (q n : ℕ) → stepOf (listSearch a f mask pattern) ≡ Yielded.At q → length (listHandles a mask pattern f) ≤ n
+      → (listHandles a mask pattern f ≡ yields n (listSearch a f mask pattern)) × (stepOf (after n (listSearch a f mask pattern)) ≡ Yielded.Refused NotFound)
+  unfolding listHandles
   listed-all q n y l =
       let t = yields-ready (areaOf a) (runOf a f) mask pattern 0 q y in
       let u = usable-run a w (t .0) in
@@ -252,23 +252,23 @@ module _ (a : Shape) {f : List ℕ} (w : Words f) (mask pattern : ℕ) where
       rw (t .0) (sym (take-all n hs k) ∙ sym (steps-yield mask pattern u (t .1) n), steps-end mask pattern u (t .1) n k)
 
   -- it lists what they yield, and one more is refused as NOTFOUND; or it is refused as the first step is
-  pub list-is-steps : (n : ℕ) → length (listed a mask pattern f) ≤ n
+  pub list-is-steps : (n : ℕ) → length (listHandles a mask pattern f) ≤ n
       → ((listSaid a f mask pattern .number ≡ 0x00)
-      × (listed a mask pattern f ≡ yields n (listSearch a f mask pattern))
+      × (listHandles a mask pattern f ≡ yields n (listSearch a f mask pattern))
       × (stepOf (after n (listSearch a f mask pattern)) ≡ Yielded.Refused NotFound))
       ⊎ ((r : Refusal) × (listSaid a f mask pattern .number ≡ refusalNumber r) × (stepOf (listSearch a f mask pattern) ≡ Yielded.Refused r))
   list-is-steps n l = go (stepOf (listSearch a f mask pattern)) refl
     where
       go : (y : Yielded) → stepOf (listSearch a f mask pattern) ≡ y
           → ((listReply a mask pattern y .number ≡ 0x00)
-          × (listed a mask pattern f ≡ yields n (listSearch a f mask pattern))
+          × (listHandles a mask pattern f ≡ yields n (listSearch a f mask pattern))
           × (stepOf (after n (listSearch a f mask pattern)) ≡ Yielded.Refused NotFound))
           ⊎ ((r : Refusal) × (listReply a mask pattern y .number ≡ refusalNumber r) × (y ≡ Yielded.Refused r))
       go (Yielded.At q) e = let t = listed-all q n e l in inl (refl, t .0, t .1)
       go (Yielded.Refused r) e = inr (r, refl, refl)
 
   -- so its line has the number of the first step, and then the handles that the steps yield
-  pub list-says : (n : ℕ) → length (listed a mask pattern f) ≤ n
+  pub list-says : (n : ℕ) → length (listHandles a mask pattern f) ≤ n
       → (listSaid a f mask pattern .number ≡ yieldedNumber (stepOf (listSearch a f mask pattern)))
       × (tailBytes (listSaid a f mask pattern .tail) f ≡ fours (yields n (listSearch a f mask pattern)))
   list-says n l = go (stepOf (listSearch a f mask pattern)) refl

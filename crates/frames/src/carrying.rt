@@ -4,7 +4,7 @@
 ghost use mathlib.Core.Path.{_≡_};
 ghost use Rattle.rules.specs.Refusals.{answerNumber, answerStores};
 ghost use Rattle.rules.specs.Lists.{recover, write, delete};
-ghost use Rattle.frames.specs.Frames.{frameOf, dataOf, plain, readReply, listReply, sizeNamed, shapeAfter, badFrame, stored, readFrame, listFrame, isFormat, formatFrame, carried};
+ghost use Rattle.frames.specs.Frames.{frameOf, lineWords, plain, readReply, listReply, sizeNamed, shapeAfter, badFrame, requested, readFrame, listFrame, isFormat, formatFrame, carried};
 ghost use Rattle.frames.specs.declared.Frame.the-variants.{Write};
 ghost use Rattle.frames.specs.Carrying.{Carries, Spends, Tells};
 use crate::ENOUGH;
@@ -122,7 +122,7 @@ fn spent(state: State, answer: Answer) -> Taken
 // A write, whose words are in its line.
 fn carry_write(state: State, flash: &mut [u32], line: &[u8], handle: u16, words: usize) -> Taken
     requires { ⌜ frameOf (now line) ≡ Write handle words ⌝ }
-    ensures { λ r. ⌜ Carries (stored state (now (flash .entry)) (write handle (dataOf (now (line .entry)) words))) r (now (flash .exit)) ⌝ }
+    ensures { λ r. ⌜ Carries (requested state (now (flash .entry)) (write handle (lineWords (now (line .entry)) words))) r (now (flash .exit)) ⌝ }
 {
     let shape = state.shape;
     let mut data = [0u32; 40];
@@ -145,7 +145,7 @@ fn carry_read(state: State, flash: &[u32], handle: u16) -> Taken
 
 // A delete.
 fn carry_delete(state: State, flash: &mut [u32], handle: u16) -> Taken
-    ensures { λ r. ⌜ Carries (stored state (now (flash .entry)) (delete handle)) r (now (flash .exit)) ⌝ }
+    ensures { λ r. ⌜ Carries (requested state (now (flash .entry)) (delete handle)) r (now (flash .exit)) ⌝ }
 {
     let shape = state.shape;
     let answer = requests::delete(flash, shape, handle, state.power);
@@ -166,7 +166,7 @@ fn carry_list(state: State, flash: &[u32], mask: u16, pattern: u16) -> Taken
 
 // A recovery.
 fn carry_recover(state: State, flash: &mut [u32]) -> Taken
-    ensures { λ r. ⌜ Carries (stored state (now (flash .entry)) recover) r (now (flash .exit)) ⌝ }
+    ensures { λ r. ⌜ Carries (requested state (now (flash .entry)) recover) r (now (flash .exit)) ⌝ }
 {
     let shape = state.shape;
     let answer = requests::recover(flash, shape, state.power);

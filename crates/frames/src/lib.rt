@@ -18,6 +18,7 @@ ghost use mathlib.Core.Path.{_≡_};
 ghost use Prim.Native.Nat.{_≤_};
 ghost use lib.ListN.{length};
 ghost use Rattle.frames.specs.Frames.{start, lineLength, Responds};
+pub use line::frame_of;
 use rules::PageSize;
 pub use saying::say;
 

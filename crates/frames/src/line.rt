@@ -6,7 +6,7 @@ ghost use mathlib.Core.List.{_++_};
 ghost use mathlib.Core.Path.{_≡_};
 ghost use Prim.Native.Nat.{_+_, _*_, _≤_, _<_};
 ghost use lib.ListN.{length, drop};
-ghost use Rattle.frames.specs.Frames.{isDigit, allDigits, value, two, four, eight, isWrite, shaped, frameOf, dataOf};
+ghost use Rattle.frames.specs.Frames.{isDigit, allDigits, value, two, four, eight, isWrite, shaped, frameOf, lineWords};
 use crate::Frame;
 
 // Whether a byte is a capital hexadecimal digit.
@@ -165,7 +165,7 @@ pub fn frame_of(line: &[u8]) -> Frame
 // Puts the words of a write of so many words at the start of a buffer.
 pub fn put_data(line: &[u8], count: usize, words: &mut [u32])
     requires { ⌜ (allDigits (now line) ≡ true) × (6 + 8 * count ≤ length (now line)) × (count ≤ length (now words)) ⌝ }
-    ensures { λ _. ⌜ now (words .exit) ≡ dataOf (now (line .entry)) count ++ drop count (now (words .entry)) ⌝ }
+    ensures { λ _. ⌜ now (words .exit) ≡ lineWords (now (line .entry)) count ++ drop count (now (words .entry)) ⌝ }
 {
     let mut i: usize = 0;
     while i < count {

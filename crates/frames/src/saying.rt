@@ -8,7 +8,7 @@ ghost use Prim.Native.Nat.{suc, min, _%_};
 ghost use lib.ListN.{take, drop};
 ghost use Rattle.rules.specs.Areas.{entries};
 ghost use Rattle.rules.specs.Places.{Right};
-ghost use Rattle.frames.specs.Frames.{digit, twoDigits, fourDigits, eightDigits, eights, fours, handles, listed, tailBytes, bytes, Says};
+ghost use Rattle.frames.specs.Frames.{digit, twoDigits, fourDigits, eightDigits, eights, fours, handles, listHandles, tailBytes, bytes, Says};
 ghost use Rattle.frames.specs.Saying.{Wrote, fourIf};
 use crate::Reply;
 use crate::Said;
@@ -148,7 +148,7 @@ fn handles(out: &mut [u8], flash: &[u32], area: Area, mask: u32, pattern: u32, p
 // Writes the handles in the area of a shape that a filter lets through; nothing where the flash has
 // no such area.
 fn listed(out: &mut [u8], flash: &[u32], shape: Shape, mask: u16, pattern: u16, pen: Pen) -> Pen
-    ensures { λ r. ⌜ Wrote (fours (listed shape mask pattern (now (flash .entry)))) pen (now (out .entry)) r (now (out .exit)) ⌝ }
+    ensures { λ r. ⌜ Wrote (fours (listHandles shape mask pattern (now (flash .entry)))) pen (now (out .entry)) r (now (out .exit)) ⌝ }
 {
     let area = area_of(shape);
     let run = entries::up_to(flash, run_end(flash, shape));
@@ -176,8 +176,8 @@ fn tail(out: &mut [u8], tail: Tail, flash: &[u32], pen: Pen) -> Pen
     }
 }
 
-// Puts the bytes of an answer from one on into the buffer, as many as it has room for; none from
-// behind the last byte on. The answer is as the flash is now: what its tail says is read there.
+// Puts the bytes of an answer, from a given one on, into the buffer, as many as it has room for; none
+// from behind the last byte on. The answer is as the flash is now: what its tail says is read there.
 pub fn say(reply: Reply, flash: &[u32], from: usize, out: &mut [u8]) -> Said
     ensures { λ r. ⌜ Says (bytes reply (now (flash .entry))) from (now (out .entry)) r (now (out .exit)) ⌝ }
 {

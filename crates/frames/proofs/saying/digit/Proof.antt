@@ -1,6 +1,6 @@
 -- `digit` adds a number below 16 to the first digit or to seven bytes behind the last. Assumes nothing.
 use borrow.Author.Needs.{needs}
-use Rattle.frames.specs.Saying.{digits}
+use Rattle.frames.specs.Saying.{digitTexts}
 use Rattle.frames.proofs.saying.digit.Statement.{statement}
 use Rattle.frames.proofs.saying.digit.Tie as tie
 
@@ -14,10 +14,10 @@ add-result-2 : tie.Need-add-result-2
 add-result-2 c = search needs
 
 returns : tie.Need-returns
-returns c = search (needs, digits)
+returns c = search (needs, digitTexts)
 
 returns-2 : tie.Need-returns-2
-returns-2 c = search (needs, digits)
+returns-2 c = search (needs, digitTexts)
 
 pub digit-spec : {M : Type 1} → statement M
 digit-spec = tie.close (tie.spec cast-n add-result add-result-2 returns returns-2)

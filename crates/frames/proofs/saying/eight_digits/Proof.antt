@@ -1,6 +1,6 @@
 -- `eight_digits` writes four and four digits, one behind the other. Assumes nothing.
 use borrow.Author.Needs.{needs}
-use Rattle.frames.specs.Saying.{digits}
+use Rattle.frames.specs.Saying.{digitTexts}
 use Rattle.frames.proofs.saying.eight_digits.Statement.{statement}
 use Rattle.frames.proofs.saying.eight_digits.Tie as tie
 
@@ -14,7 +14,7 @@ same-length : tie.Need-same-length
 same-length c = search needs
 
 returns : tie.Need-returns
-returns c = search (needs, digits)
+returns c = search (needs, digitTexts)
 
 pub eight-digits-spec : {M : Type 1} → statement M
 eight-digits-spec =

@@ -1,6 +1,6 @@
 -- `four_digits` writes two and two digits, one behind the other. Assumes nothing.
 use borrow.Author.Needs.{needs}
-use Rattle.frames.specs.Saying.{digits}
+use Rattle.frames.specs.Saying.{digitTexts}
 use Rattle.frames.proofs.saying.four_digits.Statement.{statement}
 use Rattle.frames.proofs.saying.four_digits.Tie as tie
 
@@ -14,7 +14,7 @@ same-length : tie.Need-same-length
 same-length c = search needs
 
 returns : tie.Need-returns
-returns c = search (needs, digits)
+returns c = search (needs, digitTexts)
 
 pub four-digits-spec : {M : Type 1} → statement M
 four-digits-spec =

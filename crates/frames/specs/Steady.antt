@@ -35,10 +35,10 @@ use Rattle.frames.specs.declared.State.{State}
 use Rattle.frames.specs.declared.Tail.{Tail}
 use Rattle.frames.specs.declared.Reply.{Reply}
 use Rattle.frames.specs.declared.Frame.{Frame}
-use Rattle.frames.specs.Frames.{isDigit, allDigits, value, two, four, eight, wordsFrom, frameOf, dataOf, areaOf, runWords, runOf, withRun, plain, enough, start, readReply, listReply, stored, sizeNamed, formatted, carriedBy, carried}
+use Rattle.frames.specs.Frames.{isDigit, allDigits, value, two, four, eight, wordsFrom, frameOf, lineWords, areaOf, runWords, runOf, withRun, plain, enough, start, readReply, listReply, requested, sizeNamed, formatArea, carriedBy, carried, lines}
 use Rattle.frames.specs.Lines.{value-small}
 use Rattle.frames.specs.Stepping.{usable-run}
-use Rattle.frames.specs.Sessions.{lines, by-format, run-own, format-whole}
+use Rattle.frames.specs.Sessions.{format-cases, run-own, format-whole}
 
 -- ---- the words of a line are 32-bit words
 digit-small : (l : List ℕ) (i : ℕ) → allDigits l ≡ true → value (getD l i 0) ≤ 15
@@ -62,8 +62,8 @@ words-from : (l : List ℕ) (n i : ℕ) → allDigits l ≡ true → Words (word
 words-from l zero i d = none
 words-from l (suc n) i d = more (eight-small l i d) (words-from l n (i + 8) d)
 
-pub data-words : (l : List ℕ) (n : ℕ) → allDigits l ≡ true → Words (dataOf l n)
-unfolding dataOf
+pub data-words : (l : List ℕ) (n : ℕ) → allDigits l ≡ true → Words (lineWords l n)
+unfolding lineWords
 data-words l n d = words-from l n 6 d
 
 -- what is no capital hexadecimal is no frame
@@ -76,17 +76,17 @@ frame-digits l e = go (leb 2 (length l) && allDigits l) refl
     go false q = absurd (e (rw q))
 
 -- ---- what holds between lines
-pub record Sound (s : State) (f : List ℕ) : Type 0 where
+pub record Steady (s : State) (f : List ℕ) : Type 0 where
   pub few : s .shape .pages ≤ 15
   pub words : Words f
   pub undamaged : wrongGeometry (areaOf (s .shape)) (runOf (s .shape) f) ≡ false → damaged (areaOf (s .shape)) (runOf (s .shape) f) ≡ false
 
-pub start-sound : {f : List ℕ} → Words f → Sound start f
+pub start-sound : {f : List ℕ} → Words f → Steady start f
 unfolding wrongGeometry
 start-sound w = record { few = omega arith; words = w; undamaged = λ e. absurd (true≢false e) }
 
 -- the power does not matter
-powered : {a : Shape} {k j : ℕ} {f : List ℕ} → Sound (record { shape = a; power = k }) f → Sound (record { shape = a; power = j }) f
+powered : {a : Shape} {k j : ℕ} {f : List ℕ} → Steady (record { shape = a; power = k }) f → Steady (record { shape = a; power = j }) f
 powered s = record { few = s .few; words = s .words; undamaged = s .undamaged }
 
 -- the run of an area is what was put there
@@ -95,7 +95,7 @@ unfolding runOf withRun
 run-new a f g l = take-at g (drop (runWords a) f) (runWords a) l
 
 new-sound : (a : Shape) (k : ℕ) (f g : List ℕ) → a .pages ≤ 15 → Words f → Given (areaOf a) g → damaged (areaOf a) g ≡ false
-    → Sound (record { shape = a; power = k }) (withRun a f g)
+    → Steady (record { shape = a; power = k }) (withRun a f g)
 unfolding withRun runWords
 new-sound a k f g h w v d =
     record { few = h; words = words-append (v .words) (words-drop (runWords a) w); undamaged = λ e. rw (run-new a f g (v .long)) d }
@@ -129,24 +129,24 @@ wrong-refused a f recover q = rw q
 wrong-refused a f (write h d) q = rw q
 wrong-refused a f (delete h) q = rw q
 
-module _ {s : State} {f : List ℕ} (c : Sound s f) where
+module _ {s : State} {f : List ℕ} (c : Steady s f) where
   given-run : (a : Shape) → wrongGeometry (areaOf a) (runOf a f) ≡ false → Given (areaOf a) (runOf a f)
   given-run a q = given-of (usable-run a (c .words) q)
 
-  stored-sound : (r : Request) → Asked r → Sound (stored s f r .state) (stored s f r .flash)
+  stored-sound : (r : Request) → Asked r → Steady (requested s f r .state) (requested s f r .flash)
   stored-sound r x = go (wrongGeometry (areaOf (s .shape)) (runOf (s .shape) f)) refl
     where
-      go : (b : Bool) → wrongGeometry (areaOf (s .shape)) (runOf (s .shape) f) ≡ b → Sound (stored s f r .state) (stored s f r .flash)
+      go : (b : Bool) → wrongGeometry (areaOf (s .shape)) (runOf (s .shape) f) ≡ b → Steady (requested s f r .state) (requested s f r .flash)
       go true q = rw (wrong-refused (areaOf (s .shape)) (runOf (s .shape) f) r q, run-own (s .shape) f) (powered c)
       go false q =
           let v = given-run (s .shape) q in
           let g = run (areaOf (s .shape)) r (s .power) (runOf (s .shape) f) .flash in
           new-sound (s .shape) enough f g (c .few) (c .words) (stays-given v r (s .power)) (asked-undamaged v (c .undamaged q) r x (s .power))
 
-  format-sound : (a : Shape) → a .pages ≤ 15 → Sound (formatted s f a .state) (formatted s f a .flash)
+  format-sound : (a : Shape) → a .pages ≤ 15 → Steady (formatArea s f a .state) (formatArea s f a .flash)
   format-sound a h = go (wrongGeometry (areaOf a) (runOf a f)) refl
     where
-      go : (b : Bool) → wrongGeometry (areaOf a) (runOf a f) ≡ b → Sound (formatted s f a .state) (formatted s f a .flash)
+      go : (b : Bool) → wrongGeometry (areaOf a) (runOf a f) ≡ b → Steady (formatArea s f a .state) (formatArea s f a .flash)
       go true q = rw (q, run-own a f) c
       go false q =
           let v = given-run a q in
@@ -156,23 +156,23 @@ module _ {s : State} {f : List ℕ} (c : Sound s f) where
           rw (q, format-whole a f h, e) (new-sound a (s .power) f (made ss (runOf a f)) h (c .words) (t .given) (ready-sound (areaOf a) (made ss (runOf a f)) (usable (t .given)) (t .ready)))
 
   -- a line keeps it
-  pub carried-sound : (l : List ℕ) → Sound (carried s f l .state) (carried s f l .flash)
+  pub carried-sound : (l : List ℕ) → Steady (carried s f l .state) (carried s f l .flash)
   unfolding carried
   carried-sound l = go (frameOf l) refl
     where
-      go : (x : Frame) → frameOf l ≡ x → Sound (carriedBy s f l x .state) (carriedBy s f l x .flash)
-      go (Frame.Write h n) e = stored-sound (write h (dataOf l n)) (data-words l n (frame-digits l (λ z. let y : _≡_ {A = ℕ} 0 1 = cc in omega arith)))
+      go : (x : Frame) → frameOf l ≡ x → Steady (carriedBy s f l x .state) (carriedBy s f l x .flash)
+      go (Frame.Write h n) e = stored-sound (write h (lineWords l n)) (data-words l n (frame-digits l (λ z. let y : _≡_ {A = ℕ} 0 1 = cc in omega arith)))
       go (Frame.Read h) e = c
       go (Frame.Delete h) e = stored-sound (delete h) tt
       go (Frame.List mask pattern) e = c
       go Frame.Recover e = stored-sound recover tt
       go (Frame.Power k) e = powered c
-      go (Frame.Format n size) e = by-format (λ x. Sound (x .state) (x .flash)) s f l n size (λ h. format-sound (record { pages = n; size = sizeNamed size }) h) c
+      go (Frame.Format n size) e = format-cases (λ x. Steady (x .state) (x .flash)) s f l n size (λ h. format-sound (record { pages = n; size = sizeNamed size }) h) c
       go Frame.Bad e = c
 
 -- ---- what answers can be
 -- neither DAMAGED nor BADPLACE, and number and stores fit two and four digits
-pub record Fits (r : Reply) : Type 0 where
+pub record Printable (r : Reply) : Type 0 where
   pub number : r .number ≤ 0xFF
   pub not-damaged : r .number ≢ 0x02
   pub not-place : r .number ≢ 0x09
@@ -188,13 +188,13 @@ allowed NotFound = true
 allowed NoRoom = true
 allowed BadPlace = false
 
-fits-by : (r : Reply) → leb (r .number) 0xFF ≡ true → eqb (r .number) 0x02 ≡ false → eqb (r .number) 0x09 ≡ false → r .stores ≤ 0xFFFF → Fits r
+fits-by : (r : Reply) → leb (r .number) 0xFF ≡ true → eqb (r .number) 0x02 ≡ false → eqb (r .number) 0x09 ≡ false → r .stores ≤ 0xFFFF → Printable r
 fits-by r p q w l = record { number = leb-true (r .number) 0xFF p; not-damaged = eqb-false (r .number) 0x02 q; not-place = eqb-false (r .number) 0x09 w; stores = l }
 
-fits-done : (t : Tail) → Fits (record { number = 0x00; stores = 0; tail = t })
+fits-done : (t : Tail) → Printable (record { number = 0x00; stores = 0; tail = t })
 fits-done t = fits-by (record { number = 0x00; stores = 0; tail = t }) refl refl refl (omega arith)
 
-fits-refused : (n : Refusal) → allowed n ≡ true → Fits (plain (refusalNumber n) 0)
+fits-refused : (n : Refusal) → allowed n ≡ true → Printable (plain (refusalNumber n) 0)
 fits-refused Geometry e = fits-by (plain 0x01 0) refl refl refl (omega arith)
 fits-refused Damaged e = absurd (false≢true e)
 fits-refused Unready e = fits-by (plain 0x03 0) refl refl refl (omega arith)
@@ -223,10 +223,10 @@ checks-allow {A} P refused (c ∷ cs) x h p w = go (c .0) refl (w .0) (checks-al
 abbrev toldOf : Plan → ℕ → List ℕ → Reply
 toldOf p k f = let x = outcomeOf p k f .answer in plain (answerNumber x) (answerStores x)
 
-list-fits : (ss : List Store) (k : ℕ) (f : List ℕ) → length ss ≤ 0xFFFF → Fits (toldOf (list ss) k f)
+list-fits : (ss : List Store) (k : ℕ) (f : List ℕ) → length ss ≤ 0xFFFF → Printable (toldOf (list ss) k f)
 list-fits ss k f l = go (leb (length ss) k) refl
   where
-    go : (b : Bool) → leb (length ss) k ≡ b → Fits (toldOf (list ss) k f)
+    go : (b : Bool) → leb (length ss) k ≡ b → Printable (toldOf (list ss) k f)
     go true q = rw q (fits-by (plain 0x00 (length ss)) refl refl refl l)
     go false q = let j = leb-false (length ss) k q in rw q (fits-by (plain 0x08 k) refl refl refl (omega arith))
 
@@ -241,30 +241,30 @@ module _ {a : Area} {f : List ℕ} (v : Given a f) (h : a .pages ≤ 15) (d : da
   short (delete u) c ss e = omega (arith, delete-stores v u ss e)
 
   plan-fits : (r : Request) → Asked r → (k : ℕ) (cs : List (Bool × Refusal)) (ss : List Store) → planOf a r f ≡ checked refuse cs (list ss) → Allowed cs
-      → Fits (toldOf (checked refuse cs (list ss)) k f)
+      → Printable (toldOf (checked refuse cs (list ss)) k f)
   plan-fits r c k cs ss e w =
-      checks-allow (λ (p : Plan). planOf a r f ≡ p → Fits (toldOf p k f)) refuse cs (list ss) (λ n q z. fits-refused n q) (λ z. list-fits ss k f (short r c ss z)) w e
+      checks-allow (λ (p : Plan). planOf a r f ≡ p → Printable (toldOf p k f)) refuse cs (list ss) (λ n q z. fits-refused n q) (λ z. list-fits ss k f (short r c ss z)) w e
 
-  asked-fits : (r : Request) → Asked r → (k : ℕ) → Fits (toldOf (planOf a r f) k f)
+  asked-fits : (r : Request) → Asked r → (k : ℕ) → Printable (toldOf (planOf a r f) k f)
   asked-fits format c k = absurd c
   asked-fits recover c k = plan-fits recover c k (recoverChecks a f) (recoverList a f) refl (inr refl, (inl d, tt))
   asked-fits (write u x) c k =
       plan-fits (write u x) c k (writeChecks a f u x) (writeList a u x f) refl (inr refl, (inl d, (inr refl, (inr refl, (inr refl, (inr refl, tt))))))
   asked-fits (delete u) c k = plan-fits (delete u) c k (findChecks a f u) (deleteList a u f) refl (inr refl, (inl d, (inr refl, (inr refl, (inr refl, tt)))))
 
-  read-fits : (u : ℕ) → Fits (readReply (readOf a u f))
+  read-fits : (u : ℕ) → Printable (readReply (readOf a u f))
   read-fits u =
-      checks-allow (λ (x : Reading). Fits (readReply x)) Reading.Refused (findChecks a f u) _ fits-refused (fits-done _)
+      checks-allow (λ (x : Reading). Printable (readReply x)) Reading.Refused (findChecks a f u) _ fits-refused (fits-done _)
       (inr refl, (inl d, (inr refl, (inr refl, (inr refl, tt)))))
 
-  list-reply-fits : (s : Shape) (mask pattern : ℕ) → Fits (listReply s mask pattern (searchOf a mask pattern 0 f))
+  list-reply-fits : (s : Shape) (mask pattern : ℕ) → Printable (listReply s mask pattern (searchOf a mask pattern 0 f))
   unfolding badPlace
   list-reply-fits s mask pattern =
-      checks-allow (λ (y : Yielded). Fits (listReply s mask pattern y)) Yielded.Refused (searchChecks a f mask pattern 0) _ fits-refused (fits-done _)
+      checks-allow (λ (y : Yielded). Printable (listReply s mask pattern y)) Yielded.Refused (searchChecks a f mask pattern 0) _ fits-refused (fits-done _)
       (inr refl, (inl d, (inr refl, (inl refl, (inr refl, tt)))))
 
 -- of a line's
-module _ {s : State} {f : List ℕ} (c : Sound s f) where
+module _ {s : State} {f : List ℕ} (c : Steady s f) where
   abbrev area : Area
   area = areaOf (s .shape)
 
@@ -272,40 +272,40 @@ module _ {s : State} {f : List ℕ} (c : Sound s f) where
   words = runOf (s .shape) f
 
   -- what refuses a wrong geometry, or else fits, fits
-  either-fits : (r : Reply) → (wrongGeometry area words ≡ true → r ≡ plain 0x01 0) → (Given area words → damaged area words ≡ false → Fits r) → Fits r
+  either-fits : (r : Reply) → (wrongGeometry area words ≡ true → r ≡ plain 0x01 0) → (Given area words → damaged area words ≡ false → Printable r) → Printable r
   either-fits r p q = go (wrongGeometry area words) refl
     where
-      go : (b : Bool) → wrongGeometry area words ≡ b → Fits r
+      go : (b : Bool) → wrongGeometry area words ≡ b → Printable r
       go true e = rw (p e) (fits-refused Geometry refl)
       go false e = q (given-of (usable-run (s .shape) (c .words) e)) (c .undamaged e)
 
-  stored-fits : (r : Request) → Asked r → Fits (stored s f r .reply)
+  stored-fits : (r : Request) → Asked r → Printable (requested s f r .reply)
   stored-fits r x =
-      either-fits (stored s f r .reply) (λ e. ap (λ (p : Plan). toldOf p (s .power) words) (wrong-refused area words r e)) (λ v d. asked-fits v (c .few) d r x (s .power))
+      either-fits (requested s f r .reply) (λ e. ap (λ (p : Plan). toldOf p (s .power) words) (wrong-refused area words r e)) (λ v d. asked-fits v (c .few) d r x (s .power))
 
-  format-fits : (a : Shape) → a .pages ≤ 15 → Fits (formatted s f a .reply)
+  format-fits : (a : Shape) → a .pages ≤ 15 → Printable (formatArea s f a .reply)
   format-fits a h = go (wrongGeometry (areaOf a) (runOf a f)) refl
     where
-      go : (b : Bool) → wrongGeometry (areaOf a) (runOf a f) ≡ b → Fits (formatted s f a .reply)
+      go : (b : Bool) → wrongGeometry (areaOf a) (runOf a f) ≡ b → Printable (formatArea s f a .reply)
       go true q = rw q (fits-refused Geometry refl)
       go false q =
           let ss = formatList (areaOf a) (runOf a f) in
           let l = format-length (areaOf a) (runOf a f) in
           rw q (list-fits ss enough (runOf a f) (omega arith))
 
-  pub answer-fits : (l : List ℕ) → Fits (carried s f l .reply)
+  pub answer-fits : (l : List ℕ) → Printable (carried s f l .reply)
   unfolding carried
   answer-fits l = go (frameOf l) refl
     where
-      go : (x : Frame) → frameOf l ≡ x → Fits (carriedBy s f l x .reply)
-      go (Frame.Write h n) e = stored-fits (write h (dataOf l n)) (data-words l n (frame-digits l (λ z. let y : _≡_ {A = ℕ} 0 1 = cc in omega arith)))
+      go : (x : Frame) → frameOf l ≡ x → Printable (carriedBy s f l x .reply)
+      go (Frame.Write h n) e = stored-fits (write h (lineWords l n)) (data-words l n (frame-digits l (λ z. let y : _≡_ {A = ℕ} 0 1 = cc in omega arith)))
       go (Frame.Read h) e = either-fits _ (λ q. rw q) (λ v d. read-fits v (c .few) d h)
       go (Frame.Delete h) e = stored-fits (delete h) tt
       go (Frame.List mask pattern) e = either-fits _ (λ q. rw q) (λ v d. list-reply-fits v (c .few) d (s .shape) mask pattern)
       go Frame.Recover e = stored-fits recover tt
       go (Frame.Power k) e = fits-done _
       go (Frame.Format n size) e =
-          by-format (λ x. Fits (x .reply)) s f l n size (λ h. format-fits (record { pages = n; size = sizeNamed size }) h) (fits-refused Geometry refl)
+          format-cases (λ x. Printable (x .reply)) s f l n size (λ h. format-fits (record { pages = n; size = sizeNamed size }) h) (fits-refused Geometry refl)
       go Frame.Bad e = fits-by (plain 0x0A 0) refl refl refl (omega arith)
 
 -- ---- power that none was named for is enough
@@ -332,13 +332,13 @@ list-uncut : (a : Shape) (mask pattern : ℕ) (y : Yielded) → listReply a mask
 list-uncut a mask pattern (Yielded.At p) e = omega arith
 list-uncut a mask pattern (Yielded.Refused n) e = refusal-uncut n e
 
-format-uncut : (s : State) (f : List ℕ) (a : Shape) → a .pages ≤ 15 → formatted s f a .reply .number ≢ 0x08
+format-uncut : (s : State) (f : List ℕ) (a : Shape) → a .pages ≤ 15 → formatArea s f a .reply .number ≢ 0x08
 format-uncut s f a h =
     plan-uncut (planOf (areaOf a) format (runOf a f)) enough (runOf a f)
     (λ ss e. leb-true (length ss) enough (subst (λ (u : List Store). leb (length u) enough ≡ true) (listed (formatChecks (areaOf a) (runOf a f)) (formatList (areaOf a) (runOf a f)) ss e .1) (format-whole a f h)))
 
-module _ {s : State} {f : List ℕ} (c : Sound s f) (p : s .power ≡ enough) where
-  stored-uncut : (r : Request) → Asked r → stored s f r .reply .number ≢ 0x08
+module _ {s : State} {f : List ℕ} (c : Steady s f) (p : s .power ≡ enough) where
+  stored-uncut : (r : Request) → Asked r → requested s f r .reply .number ≢ 0x08
   stored-uncut r x = plan-uncut (planOf (areaOf (s .shape)) r (runOf (s .shape) f)) (s .power) (runOf (s .shape) f) (λ ss e. go (wrongGeometry (areaOf (s .shape)) (runOf (s .shape) f)) refl ss e)
     where
       go : (b : Bool) → wrongGeometry (areaOf (s .shape)) (runOf (s .shape) f) ≡ b → (ss : List Store) → planOf (areaOf (s .shape)) r (runOf (s .shape) f) ≡ list ss
@@ -353,13 +353,13 @@ module _ {s : State} {f : List ℕ} (c : Sound s f) (p : s .power ≡ enough) wh
   power-enough l = go (frameOf l) refl
     where
       go : (x : Frame) → frameOf l ≡ x → carriedBy s f l x .reply .number ≢ 0x08
-      go (Frame.Write h n) e = stored-uncut (write h (dataOf l n)) (data-words l n (frame-digits l (λ z. let y : _≡_ {A = ℕ} 0 1 = cc in omega arith)))
+      go (Frame.Write h n) e = stored-uncut (write h (lineWords l n)) (data-words l n (frame-digits l (λ z. let y : _≡_ {A = ℕ} 0 1 = cc in omega arith)))
       go (Frame.Read h) e = read-uncut (readOf (areaOf (s .shape)) h (runOf (s .shape) f))
       go (Frame.Delete h) e = stored-uncut (delete h) tt
       go (Frame.List mask pattern) e = list-uncut (s .shape) mask pattern (searchOf (areaOf (s .shape)) mask pattern 0 (runOf (s .shape) f))
       go Frame.Recover e = stored-uncut recover tt
       go (Frame.Power k) e = λ z. omega arith
-      go (Frame.Format n size) e = by-format (λ x. x .reply .number ≢ 0x08) s f l n size (λ h. format-uncut s f (record { pages = n; size = sizeNamed size }) h) (λ z. omega arith)
+      go (Frame.Format n size) e = format-cases (λ x. x .reply .number ≢ 0x08) s f l n size (λ h. format-uncut s f (record { pages = n; size = sizeNamed size }) h) (λ z. omega arith)
       go Frame.Bad e = λ z. omega arith
 
 -- ---- a whole session
@@ -368,10 +368,10 @@ abbrev pub Each : (Reply → Type 0) → State → List ℕ → List (List ℕ) 
 Each P s f [] = Unit {0}
 Each P s f (l ∷ ls) = P (carried s f l .reply) × Each P (carried s f l .state) (carried s f l .flash) ls
 
-pub each-fits : {s : State} {f : List ℕ} → Sound s f → (ls : List (List ℕ)) → Each Fits s f ls
+pub each-fits : {s : State} {f : List ℕ} → Steady s f → (ls : List (List ℕ)) → Each Printable s f ls
 each-fits c [] = tt
 each-fits c (l ∷ ls) = (answer-fits c l, each-fits (carried-sound c l) ls)
 
 -- from the start, on any flash of 32-bit words
-pub session-fits : {f : List ℕ} → Words f → (input : List ℕ) → Each Fits start f (lines input)
+pub session-fits : {f : List ℕ} → Words f → (input : List ℕ) → Each Printable start f (lines input)
 session-fits w input = each-fits (start-sound w) (lines input)
