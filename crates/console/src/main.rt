@@ -61,7 +61,13 @@ fn tell_lines(taken: Progress, flash: &mut [u32], text: &[u8], out: &mut [u8]) -
 }
 
 // The same of a text's first bytes.
-fn tell_first(taken: Progress, flash: &mut [u32], text: &[u8], filled: usize, out: &mut [u8]) -> Progress
+fn tell_first(
+    taken: Progress,
+    flash: &mut [u32],
+    text: &[u8],
+    filled: usize,
+    out: &mut [u8],
+) -> Progress
     requires { ⌜ (length (now flash) ≤ 16384) × (0 < length (now out)) × (taken .at ≤ filled) × (filled ≤ length (now text)) ⌝ }
     ensures { λ r. ⌜ r .at ≤ filled ⌝ }
 {
