@@ -91,8 +91,8 @@ def length_notes(event):
     words, digits = divmod(len(event.line) - 6, 8)
     if event.line[:2] == b"01" and digits == 0 and words in (0, 32, 33, 40, 41):
         yield "write of %d words answers %02X" % (words, event.number)
-    if len(event.tail) > 4096:
-        yield "an answer of more than 4,096 digits"
+    if len(event.tail) > 8192:
+        yield "an answer of more than 8,192 digits"
 
 
 def input_notes(data):
@@ -143,6 +143,6 @@ def needed():
     yield from ("format of %02X%02X" % (count, size) for count in range(1, 16) for size in range(3))
     yield from ("write of %d words answers %02X" % pair for pair in
                 ((0, 0), (32, 0), (33, 5), (40, 5), (41, 10)))
-    yield "an answer of more than 4,096 digits"
+    yield "an answer of more than 8,192 digits"
     yield from ("no input", "no newline at the end", "input of the limit's length",
                 "input past the limit", "limit leaves a frame", "limit leaves no frame")

@@ -618,6 +618,7 @@ def all_inputs():
             + [("bare:600", partial(bare_writes, 15, 1, 600)),
                ("bare:1000", partial(bare_writes, 2, 2, 1000)),
                ("lists:1018-1030", partial(growing_lists, 1018, 1030)),
+               ("lists:2046-2049", partial(growing_lists, 2046, 2049)),
                ("output:reads", partial(much_output, read(0x64))),
                ("output:lists", partial(much_output, LIST_ALL)),
                ("lines:every-byte", every_byte),
