@@ -15,7 +15,7 @@ use Rattle.frames.specs.declared.Reply.{Reply}
 use Rattle.frames.specs.declared.Said.{Said}
 use Rattle.frames.specs.declared.Answered.{Answered}
 use Rattle.frames.specs.Frames.{bytes, Says, Responds}
-use Rattle.frames.specs.Sessions.{bytes-few}
+use Rattle.sessions.specs.Sessions.{bytes-few}
 
 -- what is left to be said, and whether it is known that nothing is
 abbrev pub left : List ℕ → ℕ → Bool → ℕ

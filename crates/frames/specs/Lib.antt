@@ -4,8 +4,4 @@ pub mod Shapes
 pub mod Requests
 pub mod Carrying
 pub mod Saying
-pub mod Stepping
-pub mod Sessions
-pub mod Listing
-pub mod Steady
 pub mod Answering

@@ -30,15 +30,15 @@ use Rattle.demands.specs.Settled.{ready-sound}
 use Rattle.demands.specs.Format.{format-length}
 use Rattle.demands.specs.Requests.{listed, change-ready}
 use Rattle.demands.specs.Demands.{stays-given, recover-stores, write-stores, delete-stores, formatted as format-empty, recover-plan, taken-up-again, never-damaged}
 use Rattle.frames.specs.declared.Shape.{Shape}
 use Rattle.frames.specs.declared.State.{State}
 use Rattle.frames.specs.declared.Tail.{Tail}
 use Rattle.frames.specs.declared.Reply.{Reply}
 use Rattle.frames.specs.declared.Frame.{Frame}
 use Rattle.frames.specs.Frames.{isDigit, allDigits, value, two, four, eight, wordsFrom, frameOf, lineWords, areaOf, runWords, runOf, withRun, plain, enough, start, readReply, listReply, requested, sizeNamed, formatArea, carriedBy, carried, lines}
 use Rattle.frames.specs.Lines.{value-small}
-use Rattle.frames.specs.Stepping.{usable-run}
-use Rattle.frames.specs.Sessions.{format-cases, run-own, format-whole}
+use Rattle.sessions.specs.Stepping.{usable-run}
+use Rattle.sessions.specs.Sessions.{format-cases, run-own, format-whole}
 
 -- ---- the words of a line are 32-bit words
 digit-small : (l : List ℕ) (i : ℕ) → allDigits l ≡ true → value (getD l i 0) ≤ 15

@@ -1,0 +1,4 @@
+pub mod Stepping
+pub mod Sessions
+pub mod Listing
+pub mod Steady
