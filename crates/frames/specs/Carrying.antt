@@ -1,9 +1,9 @@
 -- What a line does, from what its request answers: promise and laws. Assumes nothing.
 use mathlib.Core.Path.{_≡_, refl, sym, ap, subst, _∙_}
-use mathlib.Core.List.{List, _++_}
+use mathlib.Core.List.{List}
 use mathlib.Core.Bool.{Bool, true, false}
 use Prim.Native.Nat.{ℕ}
-use lib.ListN.{take}
+use lib.ListN.{length, take}
 use lib.Seq.{length-take-le}
 use borrow.Author.Tests.{ne-eqb, not-true, not-false}
 use Rattle.rules.specs.declared.Answer.{Answer}
@@ -22,8 +22,8 @@ use Rattle.frames.specs.declared.Tail.{Tail}
 use Rattle.frames.specs.declared.Reply.{Reply}
 use Rattle.frames.specs.declared.Frame.{Frame}
 use Rattle.frames.specs.declared.carrying.Taken.{Taken}
-use Rattle.frames.specs.Frames.{areaOf, runOf, enough, plain, readReply, readFrame, listReply, listFrame, sizeNamed, shapeAfter, badFrame, isFormat, formatFrame, frameOf, lineWords, Effect, told, requested, carriedBy, carried}
-use Rattle.frames.specs.Lines.{written-digits, written-fits, written-few, words-put, words-room}
+use Rattle.frames.specs.Frames.{areaOf, runOf, enough, plain, readReply, readFrame, listReply, listFrame, sizeNamed, shapeAfter, badFrame, isFormat, formatFrame, frameOf, Framed, Effect, told, requested, carriedBy, carried}
+use Rattle.frames.specs.Lines.{framed-room, framed-words}
 use Rattle.frames.specs.Requests.{Makes}
 
 -- ---- the promise
@@ -99,11 +99,6 @@ module _ (s : State) where
         → Carries (listFrame s f mask pattern) (record { state = s; reply = r }) f
     carries-list mask pattern e q = record { state = refl; reply = q ∙ ap (listReply (s .shape) mask pattern) e; flash = refl }
 
-    pub carries-write : {x : Answer} {g w : List ℕ} {r : Taken} (l v : List ℕ) (h n : ℕ) → w ≡ lineWords l n ++ v → Makes (s .shape) (write h (take n w)) (s .power) f x g → Spends s x r
-        → Carries (requested s f (write h (lineWords l n))) r g
-    carries-write {x} {g} l v h n e m p =
-        carries-request (subst (λ (u : List ℕ). Makes (s .shape) (write h u) (s .power) f x g) (words-put l v n e) m) p
-
     module _ {b : Bool} (n size : ℕ) (o : b ≡ isFormat n size) where
       pub no-format : {m : ℕ} {r : Reply} → b ≡ false → m ≡ refusalNumber Geometry → r ≡ plain m 0 → Carries (formatFrame s f n size) (record { state = s; reply = r }) f
       no-format t e q = rw (← o, t) (record { state = refl; reply = refused-reply Geometry e q; flash = refl })
@@ -124,21 +119,13 @@ module _ (s : State) where
 
 pub ruleset carries = (spends, tells-reply, carries-request, carries-read, carries-list)
 
-pub ruleset writeCarries = (written-digits, written-fits, written-few, words-room, length-take-le, carries-write)
-
 pub ruleset formatCarries = (not-true, not-false, no-format, carries-format)
 
 -- ---- the line, by its frame
-pub is-write-frame : {w : Frame} {h n : ℕ} (l : List ℕ) → w ≡ frameOf l → w ≡ Frame.Write h n → frameOf l ≡ Frame.Write h n
-is-write-frame l e q = sym e ∙ q
-
 module _ {w : Frame} {r : Taken} {g : List ℕ} (s : State) (f l : List ℕ) (e : w ≡ frameOf l) where
   frame-by : (v : Frame) → w ≡ v → Carries (carriedBy s f l v) r g → Carries (carried s f l) r g
   unfolding carried
   frame-by v q c = subst (λ (u : Frame). Carries (carriedBy s f l u) r g) (sym q ∙ e) c
-
-  pub by-write : {h n : ℕ} → w ≡ Frame.Write h n → Carries (requested s f (write h (lineWords l n))) r g → Carries (carried s f l) r g
-  by-write {h} {n} q c = frame-by (Frame.Write h n) q c
 
   pub by-read : {h : ℕ} → w ≡ Frame.Read h → Carries (readFrame s f h) r g → Carries (carried s f l) r g
   by-read {h} q c = frame-by (Frame.Read h) q c
@@ -167,4 +154,9 @@ module _ {w : Frame} {r : Taken} (s : State) (f l : List ℕ) (e : w ≡ frameOf
   pub by-bad : w ≡ Frame.Bad → Tells s (plain badFrame 0) r → Carries (carried s f l) r f
   by-bad q t = told-by Frame.Bad q refl t
 
-pub ruleset dispatches = (is-write-frame, by-write, by-read, by-delete, by-list, by-recover, by-format, by-power, by-bad)
+pub by-write : {w : Frame} {r : Taken} {g v z : List ℕ} {h n : ℕ} (s : State) (f l : List ℕ) → Framed l v w z → w ≡ Frame.Write h n → length z ≡ 40
+    → Carries (requested s f (write h (take n z))) r g → Carries (carried s f l) r g
+by-write {w} {r} {g} {h = h} {n} s f l e q k c =
+    frame-by s f l (e .frame) (Frame.Write h n) q (subst (λ (u : List ℕ). Carries (requested s f (write h u)) r g) (framed-words e q k) c)
+
+pub ruleset dispatches = (length-take-le, framed-room, by-write, by-read, by-delete, by-list, by-recover, by-format, by-power, by-bad)

@@ -76,6 +76,26 @@ frameOf l = cond (leb 2 (length l) && allDigits l) (shaped (two l 0) l) Frame.Ba
 unfoldable pub lineWords : List ℕ → ℕ → List ℕ
 lineWords l n = wordsFrom l n 6
 
+-- of a frame: the words that it has, if it is a write
+abbrev pub countOf : Frame → ℕ
+countOf (Frame.Write h n) = n
+countOf (Frame.Read h) = 0
+countOf (Frame.Delete h) = 0
+countOf (Frame.List mask pattern) = 0
+countOf Frame.Recover = 0
+countOf (Frame.Power k) = 0
+countOf (Frame.Format n size) = 0
+countOf Frame.Bad = 0
+
+-- a buffer v with n words of a line at its start, if it has room for them
+abbrev pub withWords : List ℕ → ℕ → List ℕ → List ℕ
+withWords l n v = cond (leb n (length v)) (lineWords l n ++ drop n v) v
+
+-- of a line l and a buffer v for the words of a write: the frame r, and the buffer w then
+pub record Framed (l v : List ℕ) (r : Frame) (w : List ℕ) : Type 0 where
+  pub frame : r ≡ frameOf l
+  pub words : w ≡ withWords l (countOf (frameOf l)) v
+
 -- ---- answers as bytes
 -- the digit of a number below 16
 abbrev pub digit : ℕ → ℕ

@@ -3,16 +3,17 @@ use mathlib.Core.Path.{_≡_, refl, sym, ap, _∙_}
 use mathlib.Core.List.{List, [], _∷_, _++_, append-assoc}
 use mathlib.Core.Bool.{Bool, true, false, cond, _&&_, true≢false}
 use mathlib.Core.Logic.{_⊎_, inl, inr, ⊎-elim}
-use Prim.Native.Nat.{ℕ, suc, zero, _+_, _-_, _*_, _/_, _%_, _≤_, _<_}
+use Prim.Native.Nat.{ℕ, suc, zero, _+_, _-_, _*_, _/_, _%_, _≤_, _<_, zero-le}
 use native.Mathlib.Omega.{arith}
 use native.Mathlib.Numerals.{add-one}
-use lib.ListN.{length, getD, take, drop, set, length-append, drop-of-length-le}
+use lib.ListN.{length, getD, take, drop, set, drop-of-length-le}
 use lib.Dec.{leb, eqb}
 use lib.Seq.{drop-cons, set-at, take-at}
-use borrow.Author.Tests.{leb-true, le-leb, lt-leb, ne-eqb, not-true, not-false}
+use borrow.Author.Tests.{leb-true, leb-false, le-leb, lt-leb, ne-eqb, not-true, not-false}
+use Rattle.flash.specs.Laws.{settled}
 use Rattle.rules.specs.Laws.{and-left, and-right}
 use Rattle.frames.specs.declared.Frame.{Frame}
-use Rattle.frames.specs.Frames.{isDigit, allDigits, value, two, four, eight, wordsFrom, isWrite, shaped, frameOf, lineWords}
+use Rattle.frames.specs.Frames.{isDigit, allDigits, value, two, four, eight, wordsFrom, isWrite, shaped, frameOf, lineWords, countOf, withWords, Framed}
 
 -- ---- all are digits up to a place: those from it on decide
 pub record Digits (l : List ℕ) (i : ℕ) : Type 0 where
@@ -294,20 +295,64 @@ module _ (l : List ℕ) {h n : ℕ} where
       go true t e = write-shaped (two l 0) (and-right (leb 2 (length l)) (allDigits l) t) e
       go false t e = absurd (true≢false (sym (ap isWriteFrame e)))
 
-  pub written-digits : frameOf l ≡ Frame.Write h n → allDigits l ≡ true
-  written-digits q = written q .0
-
-  pub written-fits : frameOf l ≡ Frame.Write h n → 6 + 8 * n ≤ length l
-  written-fits q = written q .1
-
-  pub written-few : frameOf l ≡ Frame.Write h n → n ≤ 40
-  written-few q = written q .2
-
--- the words that were put are the first of the buffer
-pub words-put : {w : List ℕ} (l v : List ℕ) (n : ℕ) → w ≡ lineWords l n ++ v → take n w ≡ lineWords l n
+-- ---- the words of a frame
+words-put : {w : List ℕ} (l v : List ℕ) (n : ℕ) → w ≡ lineWords l n ++ v → take n w ≡ lineWords l n
 unfolding lineWords
 words-put {w} l v n e = ap (take n) e ∙ take-at (wordsFrom l n 6) v n (words-length l n 6)
 
-pub words-room : {w : List ℕ} (l v : List ℕ) (n : ℕ) → w ≡ lineWords l n ++ v → n ≤ length w
-unfolding lineWords
-words-room {w} l v n e = omega (arith, ap length e, length-append (wordsFrom l n 6) v, words-length l n 6)
+some-write : (x : Frame) → (countOf x ≡ 0 → ⊥) → (h : ℕ) × (x ≡ Frame.Write h (countOf x))
+some-write (Frame.Write h n) z = (h, refl)
+some-write (Frame.Read h) z = absurd (z refl)
+some-write (Frame.Delete h) z = absurd (z refl)
+some-write (Frame.List mask pattern) z = absurd (z refl)
+some-write Frame.Recover z = absurd (z refl)
+some-write (Frame.Power k) z = absurd (z refl)
+some-write (Frame.Format n size) z = absurd (z refl)
+some-write Frame.Bad z = absurd (z refl)
+
+module _ {x : Frame} {c : ℕ} (l : List ℕ) (e : x ≡ frameOf l) (q : c ≡ countOf x) where
+  count-is : c ≡ countOf (frameOf l)
+  count-is = q ∙ ap countOf e
+
+  module _ (z : c ≡ 0 → ⊥) where
+    counted : Writes l c
+    counted =
+        let w = some-write (frameOf l) (λ y. z (count-is ∙ y)) in
+        rw count-is (written l (w .1))
+
+    pub counted-digits : allDigits l ≡ true
+    counted-digits = counted .0
+
+    pub counted-fits : 6 + 8 * c ≤ length l
+    counted-fits = counted .1
+
+    pub framed-short : {v : List ℕ} → length v < c → Framed l v x v
+    framed-short {v} h = record { frame = e; words = rw (← count-is, lt-leb c (length v) h) }
+
+  pub framed-none : {v : List ℕ} → c ≡ 0 → Framed l v x v
+  unfolding lineWords
+  framed-none {v} z = record { frame = e; words = rw (← count-is, z, le-leb 0 (length v) zero-le) }
+
+pub framed-put : {x : Frame} {c : ℕ} {w : List ℕ} (l v : List ℕ) → w ≡ lineWords l c ++ drop c v → c ≡ countOf x → x ≡ frameOf l → c ≤ length v → Framed l v x w
+framed-put {x} {c} l v d q e h = record { frame = e; words = rw (← count-is l e q, le-leb c (length v) h) d }
+
+pub ruleset framings = (counted-digits, counted-fits, framed-short, framed-none)
+
+-- of a write, in a buffer of forty
+module _ {l v w : List ℕ} {x : Frame} {h n : ℕ} (f : Framed l v x w) (q : x ≡ Frame.Write h n) (k : length w ≡ 40) where
+  framed-few : n ≤ 40
+  framed-few = written l {h = h} {n = n} (sym (f .frame) ∙ q) .2
+
+  pub framed-room : n ≤ length w
+  framed-room = let m = framed-few in omega arith
+
+  pub framed-words : take n w ≡ lineWords l n
+  framed-words = go (leb n (length v)) refl (f .words ∙ ap (λ (y : Frame). withWords l (countOf y) v) (sym (f .frame) ∙ q))
+    where
+      go : (b : Bool) → leb n (length v) ≡ b → w ≡ cond b (lineWords l n ++ drop n v) v → take n w ≡ lineWords l n
+      go true t e = words-put l (drop n v) n e
+      go false t e = let y = leb-false n (length v) t in let m = framed-few in absurd (omega (arith, ap length e))
+
+-- one outcome, and no other
+pub framed-settles : {l v w z : List ℕ} {x y : Frame} → Framed l v x w → Framed l v y z → (x ≡ y) × (w ≡ z)
+framed-settles a b = (settled (a .frame) (b .frame), settled (a .words) (b .words))

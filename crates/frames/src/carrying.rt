@@ -4,8 +4,7 @@
 ghost use mathlib.Core.Path.{_≡_};
 ghost use Rattle.rules.specs.Refusals.{answerNumber, answerStores};
 ghost use Rattle.rules.specs.Lists.{recover, write, delete};
-ghost use Rattle.frames.specs.Frames.{frameOf, lineWords, plain, readReply, listReply, sizeNamed, shapeAfter, badFrame, requested, readFrame, listFrame, isFormat, formatFrame, carried};
-ghost use Rattle.frames.specs.declared.Frame.the-variants.{Write};
+ghost use Rattle.frames.specs.Frames.{plain, readReply, listReply, sizeNamed, shapeAfter, badFrame, requested, readFrame, listFrame, isFormat, formatFrame, carried};
 ghost use Rattle.frames.specs.Carrying.{Carries, Spends, Tells};
 use crate::ENOUGH;
 use crate::Frame;
@@ -119,15 +118,12 @@ fn spent(state: State, answer: Answer) -> Taken
     }
 }
 
-// A write, whose words are in its line.
-fn carry_write(state: State, flash: &mut [u32], line: &[u8], handle: u16, words: usize) -> Taken
-    requires { ⌜ frameOf (now line) ≡ Write handle words ⌝ }
-    ensures { λ r. ⌜ Carries (requested state (now (flash .entry)) (write handle (lineWords (now (line .entry)) words))) r (now (flash .exit)) ⌝ }
+// A write.
+fn carry_write(state: State, flash: &mut [u32], handle: u16, data: &[u32]) -> Taken
+    ensures { λ r. ⌜ Carries (requested state (now (flash .entry)) (write handle (now («data» .entry)))) r (now (flash .exit)) ⌝ }
 {
     let shape = state.shape;
-    let mut data = [0u32; 40];
-    line::put_data(line, words, &mut data);
-    let answer = requests::write(flash, shape, handle, &data[..words], state.power);
+    let answer = requests::write(flash, shape, handle, data, state.power);
     spent(state, answer)
 }
 
@@ -235,8 +231,13 @@ fn bad_frame(state: State) -> Taken
 pub fn carry(state: State, flash: &mut [u32], line: &[u8]) -> Taken
     ensures { λ r. ⌜ Carries (carried state (now (flash .entry)) (now (line .entry))) r (now (flash .exit)) ⌝ }
 {
-    match line::frame_of(line) {
-        Frame::Write { handle, words } => carry_write(state, flash, line, handle, words),
+    let mut words = [0u32; 40];
+    let frame = line::read_frame(line, &mut words);
+    match frame {
+        Frame::Write {
+            handle,
+            words: count,
+        } => carry_write(state, flash, handle, &words[..count]),
         Frame::Read(handle) => carry_read(state, flash, handle),
         Frame::Delete(handle) => carry_delete(state, flash, handle),
         Frame::List { mask, pattern } => carry_list(state, flash, mask, pattern),

@@ -18,7 +18,7 @@ ghost use mathlib.Core.Path.{_≡_};
 ghost use Prim.Native.Nat.{_≤_};
 ghost use lib.ListN.{length};
 ghost use Rattle.frames.specs.Frames.{start, lineLength, Responds};
-pub use line::frame_of;
+pub use line::read_frame;
 use rules::PageSize;
 pub use saying::say;
 
@@ -61,7 +61,8 @@ pub struct Reply {
     pub tail: Tail,
 }
 
-// A frame of document 01, "The console". The words of a write stay in its line, so many of them.
+// A frame of document 01, "The console". Of a write it has the number of words; the words themselves
+// are in a buffer beside it.
 pub enum Frame {
     Write { handle: u16, words: usize },
     Read(u16),

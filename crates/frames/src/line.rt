@@ -6,7 +6,7 @@ ghost use mathlib.Core.List.{_++_};
 ghost use mathlib.Core.Path.{_≡_};
 ghost use Prim.Native.Nat.{_+_, _*_, _≤_, _<_};
 ghost use lib.ListN.{length, drop};
-ghost use Rattle.frames.specs.Frames.{isDigit, allDigits, value, two, four, eight, isWrite, shaped, frameOf, lineWords};
+ghost use Rattle.frames.specs.Frames.{isDigit, allDigits, value, two, four, eight, isWrite, shaped, frameOf, lineWords, countOf, Framed};
 use crate::Frame;
 
 // Whether a byte is a capital hexadecimal digit.
@@ -150,7 +150,7 @@ fn shaped(kind: u32, line: &[u8]) -> Frame
 }
 
 // The frame of a line.
-pub fn frame_of(line: &[u8]) -> Frame
+fn frame_of(line: &[u8]) -> Frame
     ensures { λ r. ⌜ r ≡ frameOf (now (line .entry)) ⌝ }
 {
     if line.len() < 2 {
@@ -163,7 +163,7 @@ pub fn frame_of(line: &[u8]) -> Frame
 }
 
 // Puts the words of a write of so many words at the start of a buffer.
-pub fn put_data(line: &[u8], count: usize, words: &mut [u32])
+fn put_data(line: &[u8], count: usize, words: &mut [u32])
     requires { ⌜ (allDigits (now line) ≡ true) × (6 + 8 * count ≤ length (now line)) × (count ≤ length (now words)) ⌝ }
     ensures { λ _. ⌜ now (words .exit) ≡ lineWords (now (line .entry)) count ++ drop count (now (words .entry)) ⌝ }
 {
@@ -172,4 +172,40 @@ pub fn put_data(line: &[u8], count: usize, words: &mut [u32])
         words[i] = eight(line, 6 + 8 * i);
         i += 1;
     }
+}
+
+// The number of words of a frame, 0 if it is no write.
+fn count_of(frame: Frame) -> usize
+    ensures { λ r. ⌜ r ≡ countOf frame ⌝ }
+{
+    match frame {
+        Frame::Write { handle: _, words } => words,
+        Frame::Read(_) => 0,
+        Frame::Delete(_) => 0,
+        Frame::List {
+            mask: _,
+            pattern: _,
+        } => 0,
+        Frame::Recover => 0,
+        Frame::Power(_) => 0,
+        Frame::Format { pages: _, size: _ } => 0,
+        Frame::Bad => 0,
+    }
+}
+
+// The frame of a line. The words of a write go to the start of the buffer, if it has room for all of
+// them; forty is always enough.
+pub fn read_frame(line: &[u8], words: &mut [u32]) -> Frame
+    ensures { λ r. ⌜ Framed (now (line .entry)) (now (words .entry)) r (now (words .exit)) ⌝ }
+{
+    let frame = frame_of(line);
+    let count = count_of(frame);
+    if count == 0 {
+        return frame;
+    }
+    if words.len() < count {
+        return frame;
+    }
+    put_data(line, count, words);
+    frame
 }

@@ -4,29 +4,38 @@ use Rattle.frames.specs.Carrying.{dispatches}
 use Rattle.frames.proofs.carrying.carry.Statement.{statement}
 use Rattle.frames.proofs.carrying.carry.Tie as tie
 
-frame-of-requires : tie.Need-frame-of-requires
-frame-of-requires c κs = search needs
+slice-aggregate-read-frame : tie.Need-slice-aggregate-read-frame
+slice-aggregate-read-frame c = search needs
 
-enum-known-handle : tie.Need-enum-known-handle
-enum-known-handle c = search needs
+read-frame-requires : tie.Need-read-frame-requires
+read-frame-requires c κs = search needs
+
+enum-known-frame : tie.Need-enum-known-frame
+enum-known-frame c = search needs
+
+array-share-prefix-words : tie.Need-array-share-prefix-words
+array-share-prefix-words c = search (needs, dispatches)
+
+slice-aggregate-carry-write : tie.Need-slice-aggregate-carry-write
+slice-aggregate-carry-write c = search (needs, dispatches)
 
 carry-write-requires : tie.Need-carry-write-requires
-carry-write-requires c κs = search (needs, dispatches)
+carry-write-requires c κs = search needs
 
-enum-known-handle-2 : tie.Need-enum-known-handle-2
-enum-known-handle-2 c = search needs
+enum-known-frame-2 : tie.Need-enum-known-frame-2
+enum-known-frame-2 c = search needs
 
 carry-read-requires : tie.Need-carry-read-requires
 carry-read-requires c κs = search needs
 
-enum-known-handle-3 : tie.Need-enum-known-handle-3
-enum-known-handle-3 c = search needs
+enum-known-frame-3 : tie.Need-enum-known-frame-3
+enum-known-frame-3 c = search needs
 
 carry-delete-requires : tie.Need-carry-delete-requires
 carry-delete-requires c κs = search needs
 
-enum-known-mask : tie.Need-enum-known-mask
-enum-known-mask c = search needs
+enum-known-frame-4 : tie.Need-enum-known-frame-4
+enum-known-frame-4 c = search needs
 
 carry-list-requires : tie.Need-carry-list-requires
 carry-list-requires c κs = search needs
@@ -37,14 +46,14 @@ enum-told c = search needs
 carry-recover-requires : tie.Need-carry-recover-requires
 carry-recover-requires c κs = search needs
 
-enum-known-power : tie.Need-enum-known-power
-enum-known-power c = search needs
+enum-known-frame-5 : tie.Need-enum-known-frame-5
+enum-known-frame-5 c = search needs
 
 powered-requires : tie.Need-powered-requires
 powered-requires c κs = search needs
 
-enum-known-pages : tie.Need-enum-known-pages
-enum-known-pages c = search needs
+enum-known-frame-6 : tie.Need-enum-known-frame-6
+enum-known-frame-6 c = search needs
 
 carry-format-requires : tie.Need-carry-format-requires
 carry-format-requires c κs = search needs
@@ -101,20 +110,23 @@ pub carry-spec : {M : Type 1} → statement M
 carry-spec =
     tie.close
     (tie.spec
-    frame-of-requires
-    enum-known-handle
+    slice-aggregate-read-frame
+    read-frame-requires
+    enum-known-frame
+    array-share-prefix-words
+    slice-aggregate-carry-write
     carry-write-requires
-    enum-known-handle-2
+    enum-known-frame-2
     carry-read-requires
-    enum-known-handle-3
+    enum-known-frame-3
     carry-delete-requires
-    enum-known-mask
+    enum-known-frame-4
     carry-list-requires
     enum-told
     carry-recover-requires
-    enum-known-power
+    enum-known-frame-5
     powered-requires
-    enum-known-pages
+    enum-known-frame-6
     carry-format-requires
     enum-told-2
     bad-frame-requires
