@@ -4,6 +4,7 @@ use mathlib.Core.Path.{_≡_, refl, ap, sym, _∙_, subst}
 use mathlib.Core.Logic.{⊎-elim, _⊎_, inl, inr}
 use mathlib.Core.List.{List, [], _∷_, _++_, append-assoc}
 use mathlib.Core.Bool.{Bool, true, false, or-true}
+use mathlib.Core.Option.{orElse}
 use Prim.Native.Nat.{ℕ, suc, _+_, _-_, _≤_, _<_, zero-le}
 use native.Mathlib.Omega.{arith}
 use native.Mathlib.Nat.{le-refl}
@@ -16,7 +17,7 @@ use Rattle.rules.specs.declared.Area.{Area}
 use Rattle.rules.specs.declared.Recovery.the-variants.{Free, Unfinished, Committed}
 use Rattle.rules.specs.Words.{openWords, lastSeal, meta0, meta1, isLive, seal}
 use Rattle.rules.specs.Walk.{Item, codes, items, stop, isSound}
-use Rattle.rules.specs.Areas.{R, base, page, kind, recovery, placed, pageEntries, entries, liveWords, ready}
+use Rattle.rules.specs.Areas.{R, base, page, kind, recovery, placed, pageEntries, entries, twice, find, liveWords, ready}
 use Rattle.rules.specs.Lists.{erase, keepLive, liveCodes, copyTo, restore, compact, finish}
 use Rattle.rules.specs.Laws.{live-append}
 use Rattle.rules.specs.Places.{page-in, length-page}
@@ -24,7 +25,7 @@ use Rattle.demands.specs.Terms.{Fair, Map, recovered, blanks, Goods, no-
 use Rattle.demands.specs.Stages.{after, after-then, fair-append}
 use Rattle.demands.specs.Pages.{image, goods-items, length-image, at-seal, items-image, kind-image, stop-image, words-image}
 use Rattle.demands.specs.Runs.{Usable, shape-of, copied, part, meta-low, same-or-not, words-left, words-right, words-append, words-page, Only, only-self, only-as, only-trans, only-same, turns-wipe}
-use Rattle.demands.specs.Entries.{look, look-kept, twice-kept, live-kept, live-same}
+use Rattle.demands.specs.Entries.{look, look-kept, twice-kept, live-kept, live-same, find-kept}
 use Rattle.demands.specs.Layout.{before, behind, entries-split, entries-only}
 use Rattle.demands.specs.Settled.{open-r, closed-r, given-made, free-blank, Settled, Stands, ready-stands, stands-by, stands-settled, stands-look, mended-only, settled-page}
 use Rattle.demands.specs.Finishing.{Undamaged, undamaged-by, restored, finish-resumes, finish-fair, recovered-by}
@@ -263,3 +264,15 @@ held-in-r {a} {f} u r i h =
     let s = ready-stands u r in
     let k = kept-fits s i h in
     (omega arith, full-words s i h (length (codes (kept s i h)) + 1) (length-append (codes (kept s i h)) (seal ∷ [])))
+
+-- what is found of a handle afterwards: its entry in the very page, or else the one from before
+pub found-packed : {a : Area} {f : List ℕ} → Usable a f → ready a f ≡ true → (i : ℕ) → i < a .pages → (h : ℕ)
+    → find h (entries a (made (compact a i f) f)) ≡ orElse (find h (pageEntries a (made (compact a i f) f) i)) (find h (entries a f))
+found-packed {a} {f} u r i h k =
+    let s = ready-stands u r in
+    let e = packed-entries s i h in
+    let es = items (page a f i) in
+    let here : items (page a (packed s i h) i) ≡ kept s i h = ap items (packed-only s i h .here) ∙ items-image at-seal (a .pages) i (room s i h) (kept s i h) (kept-good s i h) in
+    let t : twice (before a f i ++ (placed (base a i + 2) (keepLive es) ++ behind a f i)) ≡ false = ap twice (sym e) ∙ stands-settled (packed-stands s i h) .1 in
+    ap (find k) e ∙ find-kept k (before a f i) (base a i + 2) (base a i + 2) es (behind a f i) t
+    ∙ rw (here, entries-split a f i h)

@@ -125,7 +125,7 @@ module _ {a : Area} {f : List ℕ} (given : Given a f) where
   recover-stores ss e = rw (← listed (recoverChecks a f) (recoverList a f) ss e .1) (recover-few a f)
 
   pub ready-stores : ready a f ≡ true → planOf a recover f ≡ list []
-  ready-stores r = recover-planned (undamaged (ready-sound a f fit r)) ∙ ap list (ready-rests a f fit r)
+  ready-stores r = recover-planned (undamaged (ready-sound a f fit r)) ∙ ap list (ready-rests a f r)
 
   -- ---- 3. The page that a write takes is the lowest whose seal leaves the room for an entry of l words, and the one to compact the lowest
   -- whose live words leave it. Within the quota there is room: where no page has it a page to compact exists, and compacted that very page

@@ -2,9 +2,9 @@
 -- Assumes nothing.
 use mathlib.Core.Path.{_≡_, refl, ap, sym, _∙_}
 use mathlib.Core.Logic.{⊎-elim, _⊎_, inl, inr}
-use mathlib.Core.List.{List, [], _∷_, _++_, nil≢cons, head-eq-of-cons-eq, tail-eq-of-cons-eq}
+use mathlib.Core.List.{List, [], _∷_, _++_, append-assoc, nil≢cons, head-eq-of-cons-eq, tail-eq-of-cons-eq}
 use mathlib.Core.Bool.{Bool, true, false, cond, _&&_, _||_, or-true, true≢false}
-use mathlib.Core.Option.{Option, some, none}
+use mathlib.Core.Option.{Option, some, none, orElse}
 use Prim.Native.Nat.{ℕ, _+_}
 use native.Mathlib.Omega.{arith}
 use lib.ListN.{length, length-append}
@@ -379,3 +379,34 @@ live-kept at (e ∷ es) = go (isLive (e .handle)) refl (live-kept (at + entryLen
 
 pub live-same : (at bt : ℕ) (es : List Item) → liveWords (placed at (keepLive es)) ≡ liveWords (placed bt es)
 live-same at bt es = alike-live (alike-kept at bt es)
+
+-- ---- what is found of a handle when those of a page alone are copied
+first-past : (t : Entry → Bool) (x y z : List Entry) → anyOf t y ≡ false → firstOf t (x ++ (y ++ z)) ≡ firstOf t (x ++ z)
+first-past t [] [] z q = refl
+first-past t [] (e ∷ y) z q = rw (nor-left (t e) _ q) (first-past t [] y z (nor-right (t e) _ q))
+first-past t (c ∷ x) y z q = rw (first-past t x y z q)
+
+find-among : (h : ℕ) (x y z : List Entry) (e : Entry) → twice (x ++ (y ++ z)) ≡ false → find h y ≡ some e → find h (x ++ (y ++ z)) ≡ some e
+find-among h x y z e t q =
+    let r = find-some h y e q in
+    let p = r .0 in
+    let s = r .1 in
+    let k : x ++ (y ++ z) ≡ (x ++ p) ++ e ∷ (s ++ z) =
+    ap (λ (u : List Entry). x ++ (u ++ z)) (r .2) ∙ ap (λ (u : List Entry). x ++ u) (append-assoc p (e ∷ s) z) ∙ sym (append-assoc x p (e ∷ (s ++ z))) in
+    let n : anyOf (liveOf (e .handle)) ((x ++ p) ++ (s ++ z)) ≡ false = once-apart (x ++ p) e (s ++ z) (ap twice (sym k) ∙ t) in
+    ap (find h) k ∙ first-at (liveOf h) (x ++ p) e (s ++ z) (live-mine h e (r .4) (r .3))
+    (ap (λ (u : ℕ). anyOf (liveOf u) ((x ++ p) ++ (s ++ z))) (sym (r .3)) ∙ n)
+
+pub find-kept : (h : ℕ) (A : List Entry) (at bt : ℕ) (es : List Item) (B : List Entry) → twice (A ++ (placed at (keepLive es) ++ B)) ≡ false
+    → find h (A ++ (placed at (keepLive es) ++ B)) ≡ orElse (find h (placed at (keepLive es))) (find h (A ++ (placed bt es ++ B)))
+unfolding orElse
+find-kept h A at bt es B t = go (find h K) refl
+  where
+    K : List Entry
+    K = placed at (keepLive es)
+
+    go : (o : Option Entry) → find h K ≡ o → find h (A ++ (K ++ B)) ≡ orElse o (find h (A ++ (placed bt es ++ B)))
+    go (some e) q = find-among h A K B e t q
+    go none q =
+        let n = find-none h K q in
+        first-past (liveOf h) A K B n ∙ sym (first-past (liveOf h) A (placed bt es) B (sym (alike-any h (alike-kept at bt es)) ∙ n))

@@ -3,7 +3,7 @@
 use mathlib.Core.Path.{_≡_, refl, ap, sym, _∙_, subst}
 use mathlib.Core.Logic.{⊎-elim, _⊎_, _≢_, inl, inr}
 use mathlib.Core.List.{List, [], _∷_, _++_, append-assoc}
-use mathlib.Core.Bool.{or-true, true, false, _||_, true≢false}
+use mathlib.Core.Bool.{Bool, or-true, true, false, not, _&&_, _||_, true≢false, false≢true, and-assoc}
 use mathlib.Core.Option.{Option, some, none}
 use Prim.Native.Nat.{ℕ, suc, zero, _+_, _-_, _≤_, _<_, zero-le}
 use native.Mathlib.Omega.{arith}
@@ -11,8 +11,8 @@ use native.Mathlib.Nat.{le-refl}
 use lib.ListN.{getD-replicate, getD, length, getD, take, drop, length-append, length-replicate}
 use lib.Seq.{take-at, take-append-le}
 use lib.Dec.{eqb}
-use borrow.Author.Tests.{not-false, eq-eqb, ne-eqb}
-use Rattle.flash.specs.Stores.{blank, Words, none, more, Store, apply, made, madeFirst}
+use borrow.Author.Tests.{not-true, not-false, eq-eqb, ne-eqb}
+use Rattle.flash.specs.Stores.{blank, Words, none, more, Store, apply, made, madeFirst, each}
 use Rattle.flash.specs.Laws.{made-append, le-or-lt, first-none, first-all}
 use Rattle.rules.specs.declared.Area.{Area}
 use Rattle.rules.specs.declared.Kind.{Kind}
@@ -20,10 +20,10 @@ use Rattle.rules.specs.declared.Kind.the-variants.{Torn, Neither, Sealed}
 use Rattle.rules.specs.declared.Recovery.{Recovery}
 use Rattle.rules.specs.declared.Recovery.the-variants.{Free, Unfinished, Committed, Damage}
 use Rattle.rules.specs.Words.{meta0, meta1, seal}
-use Rattle.rules.specs.Walk.{codes, items, stop, kindOf, isSound}
-use Rattle.rules.specs.Areas.{R, base, page, kind, every, recovery, isDamage, names, entries, find, soundOrNamed, damaged, ready}
-use Rattle.rules.specs.Lists.{erase, copyTo, finish, dropDoubles, recoverList}
-use Rattle.rules.specs.Laws.{nor-left, nor-right}
+use Rattle.rules.specs.Walk.{codes, items, stop, kindOf, isSealed, isSound}
+use Rattle.rules.specs.Areas.{R, base, page, kind, every, recovery, isFree, isDamage, names, entries, twice, find, soundOrNamed, sealedAt, damaged, ready}
+use Rattle.rules.specs.Lists.{erase, copyTo, finish, mend, dropDoubles, recoverList}
+use Rattle.rules.specs.Laws.{and-left, and-right, nor-left, nor-right}
 use Rattle.rules.specs.Places.{page-in, length-page}
 use Rattle.demands.specs.Terms.{Fair, fair-end, Map, recovered, lastLive, keptOf, keptItems, kept, blanks, PageIs, sealed-page, torn-page, RIs, open-page, committed-page}
 use Rattle.demands.specs.Stages.{after, after-then, fair-append, Resumes, then-resumes, peels-resumes, peels-ends, peels-same, peels-fair}
@@ -304,12 +304,40 @@ module _ (a : Area) where
   pub recover-settled : (f : List ℕ) → Settled a f → recoverList a f ≡ dropDoubles a f
   recover-settled f s = recover-mended f s ∙ rw (settled-mends a f s .1)
 
-  pub ready-rests : (f : List ℕ) → Usable a f → ready a f ≡ true → recoverList a f ≡ []
-  ready-rests f g e = let p = ready-settled g e in recover-settled f (p .0) ∙ supersede-none (entries a f) (p .1)
+  -- with R free and all pages sealed, doubles alone are left to drop
+  sealed-rests : (f : List ℕ) (n i : ℕ) → every (sealedAt a f) n i ≡ true → each (mend a) n i f ≡ []
+  sealed-rests f zero i q = refl
+  sealed-rests f (suc n) i q = go (kind a f i) refl (and-left (sealedAt a f i) _ q) (sealed-rests f n (suc i) (and-right (sealedAt a f i) _ q))
+    where
+      go : (k : Kind) → kind a f i ≡ k → isSealed (kind a f i) ≡ true → each (mend a) n (suc i) f ≡ [] → each (mend a) (suc n) i f ≡ []
+      go Sealed e t ih = rw e ih
+      go Torn e t ih = absurd (false≢true (rw e at t))
+      go Neither e t ih = absurd (false≢true (rw e at t))
+
+  pub sealed-drops : (f : List ℕ) → isFree (recovery a f) && every (sealedAt a f) (a .pages) 0 ≡ true → recoverList a f ≡ dropDoubles a f
+  sealed-drops f e = go (recovery a f) refl (and-left (isFree (recovery a f)) pages e)
+    where
+      pages : Bool
+      pages = every (sealedAt a f) (a .pages) 0
+
+      go : (r : Recovery) → recovery a f ≡ r → isFree (recovery a f) ≡ true → recoverList a f ≡ dropDoubles a f
+      go Free q t = rw (q, sealed-rests f (a .pages) 0 (and-right (isFree (recovery a f)) pages e))
+      go Unfinished q t = absurd (false≢true (rw q at t))
+      go (Committed i) q t = absurd (false≢true (rw q at t))
+      go Damage q t = absurd (false≢true (rw q at t))
+
+  -- a ready area has nothing to recover
+  pub ready-rests : (f : List ℕ) → ready a f ≡ true → recoverList a f ≡ []
+  unfolding ready
+  ready-rests f e =
+      let sealed = isFree (recovery a f) && every (sealedAt a f) (a .pages) 0 in
+      let once = not (twice (entries a f)) in
+      let h : sealed && once ≡ true = and-assoc (isFree (recovery a f)) (every (sealedAt a f) (a .pages) 0) once ∙ e in
+      sealed-drops f (and-left sealed once h) ∙ supersede-none (entries a f) (not-true (twice (entries a f)) (and-right sealed once h))
 
   -- a ready area is recovered to itself
   pub stands-recovered : {m : Map} {n : ℕ} (f : List ℕ) → Stands a m n f → recovered a f ≡ f
-  stands-recovered f s = rw (ready-rests f (s .given) (s .ready))
+  stands-recovered f s = rw (ready-rests f (s .ready))
 
 pub stands-undamaged : {a : Area} {m : Map} {n : ℕ} {f : List ℕ} → Stands a m n f → Undamaged a f
 stands-undamaged s = mended-undamaged (stands-settled s .0)
@@ -325,7 +353,7 @@ safe-after {a} {f = f} s = record { undamaged = stands-undamaged s; ends = inr (
 pub recovered-by : {a : Area} {m : Map} {n : ℕ} (g p : List ℕ) → after (finish a) g ≡ p → Stands a m n p → recovered a g ≡ p
 recovered-by {a} g p e s =
     let t = stands-settled s in
-    let r = sym (recover-mended a p (t .0)) ∙ ready-rests a p (s .given) (s .ready) in
+    let r = sym (recover-mended a p (t .0)) ∙ ready-rests a p (s .ready) in
     after-then (finish a) (mendAndDrop a) g ∙ ap (after (mendAndDrop a)) e ∙ ap (λ (u : List Store). made u p) r
 
 -- ---- what it keeps

@@ -2,23 +2,20 @@
 -- Assumes nothing.
 use mathlib.Core.Path.{_≡_, refl, sym, ap, subst, _∙_}
 use mathlib.Core.List.{List, [], _∷_, _++_}
-use mathlib.Core.Bool.{Bool, true, false, cond, not, _&&_, _||_}
+use mathlib.Core.Bool.{Bool, true, false, cond, not}
 use mathlib.Core.Option.{Option, some, none}
 use mathlib.Core.Logic.{⊎-elim}
 use Prim.Native.Nat.{ℕ, suc, zero, _+_, _-_, _≤_, _<_}
 use native.Mathlib.Omega.{arith}
 use lib.ListN.{length, getD, take, drop, length-take, length-drop}
-use lib.Bits.{bitAnd}
-use lib.Dec.{ltb, eqb}
 use lib.Seq.{length-take-le, take-nil, take-take, getD-take}
 use borrow.Author.Tests.{eq-eqb, ne-eqb}
 use Rattle.flash.specs.Laws.{le-or-lt}
 use Rattle.rules.specs.declared.Area.{Area}
-use Rattle.rules.specs.Words.{handleOf, isLive}
+use Rattle.rules.specs.Words.{handleOf}
 use Rattle.rules.specs.Walk.{walkIn, items}
-use Rattle.rules.specs.Areas.{base, Entry, placed, pageEntries, entriesFrom, entries, anyOf, firstOf, liveOf, twice, find}
+use Rattle.rules.specs.Areas.{base, Entry, placed, pageEntries, entriesFrom, entries, anyOf, firstOf, liveOf, find}
 use Rattle.rules.specs.Refusals.{isNone}
-use Rattle.rules.specs.Search.{wanted, isAt, badPlace}
 use Rattle.rules.specs.Places.{Right, base-suc, base-zero, page-from, base-in}
 use Rattle.pages.specs.Steps.{lengthAt, walkAt, entriesAt, entryAt, length-inside, entries-on, entries-end}
 use Rattle.entries.specs.declared.Cursor.{Cursor}
@@ -69,14 +66,14 @@ page-onward a f i h = ap (λ (u : List ℕ). placed (base a i + 2) (walkIn 0 u .
 
 -- where a page has no entry left, the next one's follow
 module _ {a : Area} {f : List ℕ} (r : Right a f) where
-  ends-next : {end left : ℕ} → Ends a f end left → (left ≡ 0 → ⊥) → Ends a f (end + a .words) (left - 1)
+  pub ends-next : {end left : ℕ} → Ends a f end left → (left ≡ 0 → ⊥) → Ends a f (end + a .words) (left - 1)
   ends-next {end} {left} e z =
       let b = e .behind in
       let i : suc (a .pages - left) ≡ a .pages - (left - 1) = omega arith in
       let q : base a (a .pages - (left - 1)) ≡ end + a .words = ap (base a) (sym i) ∙ base-suc a (a .pages - left) ∙ ap (λ (u : ℕ). u + a .words) (sym (e .place)) in
       record { behind = omega arith; place = sym q; inside = subst (λ (u : ℕ). u ≤ length f) q (base-in r (a .pages - (left - 1)) (omega arith)) }
 
-  onward-next : (end left : ℕ) → Ends a f end left → (left ≡ 0 → ⊥) → entriesFrom a f left (a .pages - left) ≡ onward a f (end + 2) (end + a .words) (left - 1)
+  pub onward-next : (end left : ℕ) → Ends a f end left → (left ≡ 0 → ⊥) → entriesFrom a f left (a .pages - left) ≡ onward a f (end + 2) (end + a .words) (left - 1)
   unfolding onward
   onward-next end zero e z = absurd (z refl)
   onward-next end (suc l) e z =
@@ -266,7 +263,7 @@ finding-start {t} s = record { sound = s .sound; same = ap (firstOf t) (s .same)
 pub finding-here : {t : Entry → Bool} {a : Area} {f : List ℕ} {c : Cursor} → Sound a f c → Finding t a f (firstOf t (ahead a f c)) c
 finding-here s = record { sound = s; same = refl }
 
-finding-end : {t : Entry → Bool} {a : Area} {f : List ℕ} {o : Option Entry} {c : Cursor} → Finding t a f o c → c .length ≡ 0 → none ≡ o
+pub finding-end : {t : Entry → Bool} {a : Area} {f : List ℕ} {o : Option Entry} {c : Cursor} → Finding t a f o c → c .length ≡ 0 → none ≡ o
 finding-end {t} s z = ap (firstOf t) (sym (ahead-end (s .sound) z)) ∙ s .same
 
 module _ {t : Entry → Bool} {a : Area} {f : List ℕ} {o : Option Entry} {c : Cursor} (s : Finding t a f o c) (z : c .length ≡ 0 → ⊥) where
@@ -276,7 +273,7 @@ module _ {t : Entry → Bool} {a : Area} {f : List ℕ} {o : Option Entry} {c : 
   pub finding-on : {d : Cursor} → Settled a f (behind a f c) d → t (entryOf f c) ≡ false → Finding t a f o d
   finding-on d q = record { sound = d .sound; same = ap (firstOf t) (d .same) ∙ rw q at here }
 
-  finding-found : t (entryOf f c) ≡ true → some (entryOf f c) ≡ o
+  pub finding-found : t (entryOf f c) ≡ true → some (entryOf f c) ≡ o
   finding-found q = rw q at here
 
   pub found-at : t (entryOf f c) ≡ true → Found.At (c .place) (c .length - 1) ≡ foundOf o
@@ -287,7 +284,7 @@ pub ends-none : {t : Entry → Bool} {a : Area} {f : List ℕ} {o : Option Entry
 ends-none s z = ap foundOf (finding-end s z)
 
 -- whether an entry passes
-any-first : (t : Entry → Bool) (es : List Entry) → anyOf t es ≡ not (isNone (firstOf t es))
+pub any-first : (t : Entry → Bool) (es : List Entry) → anyOf t es ≡ not (isNone (firstOf t es))
 any-first t [] = refl
 any-first t (e ∷ es) = go (t e) refl (any-first t es)
   where
@@ -301,10 +298,6 @@ module _ {r : Found} (k : ℕ) (es : List Entry) (e : r ≡ foundOf (find k es))
 
   pub any-none : r ≡ Found.None → false ≡ anyOf (liveOf k) es
   any-none q = sym (any-first (liveOf k) es ∙ ap (λ (o : Option Entry). not (isNone o)) (found-none (find k es) e q))
-
--- what is found from a cursor on
-pub found-all : {r : Found} {a : Area} {f : List ℕ} {es : List Entry} {c : Cursor} (h : ℕ) → Settled a f es c → r ≡ foundOf (find h (ahead a f c)) → r ≡ foundOf (find h es)
-found-all h s e = e ∙ ap (λ (u : List Entry). foundOf (find h u)) (s .same)
 
 -- ---- the tests, by what is read at a cursor
 pub live-hit : {k : ℕ} (h : ℕ) (f : List ℕ) (c : Cursor) → (h ≡ 0 → ⊥) → k ≡ handleOf (getD f (c .place) 0) → k ≡ h → liveOf h (entryOf f c) ≡ true
@@ -323,68 +316,6 @@ zero-none (e ∷ es) = zero-none es
 pub find-dead : (h : ℕ) (es : List Entry) → h ≡ 0 → Found.None ≡ foundOf (find h es)
 find-dead h es z = rw z (ap foundOf (zero-none es))
 
-module _ {b : Bool} {k : ℕ} (mask pattern start : ℕ) (f : List ℕ) (c : Cursor) (e : k ≡ handleOf (getD f (c .place) 0)) (q : b ≡ isLive k && eqb (bitAnd k mask) (bitAnd pattern mask)) where
-  wanted-is : wanted mask pattern start (entryOf f c) ≡ ltb start (c .place) && b
-  unfolding entryOf
-  wanted-is = rw (q, e)
+pub ruleset finds = (fewer, finding-start, finding-here, finding-on, found-at, ends-none, live-hit, live-miss, find-dead)
 
-  pub wanted-hit : ltb start (c .place) && b ≡ true → wanted mask pattern start (entryOf f c) ≡ true
-  wanted-hit t = wanted-is ∙ t
-
-  pub wanted-miss : ltb start (c .place) && b ≡ false → wanted mask pattern start (entryOf f c) ≡ false
-  wanted-miss t = wanted-is ∙ t
-
-place-hit : (p : ℕ) (f : List ℕ) (c : Cursor) → c .place ≡ p → isAt p (entryOf f c) ≡ true
-unfolding entryOf
-place-hit p f c e = eq-eqb (c .place) p e
-
-pub place-miss : (p : ℕ) (f : List ℕ) (c : Cursor) → (c .place ≡ p → ⊥) → isAt p (entryOf f c) ≡ false
-unfolding entryOf
-place-miss p f c e = ne-eqb (c .place) p e
-
--- ---- BADPLACE
-pub place-start : (a : Area) (f : List ℕ) (p : ℕ) → p ≡ 0 → false ≡ badPlace a f p
-unfolding badPlace
-place-start a f p z = rw (eq-eqb p 0 z)
-
-module _ {a : Area} {f : List ℕ} {p : ℕ} {c : Cursor} (s : Finding (isAt p) a f (firstOf (isAt p) (entries a f)) c) (y : p ≡ 0 → ⊥) where
-  pub place-good : (c .length ≡ 0 → ⊥) → c .place ≡ p → false ≡ badPlace a f p
-  unfolding badPlace
-  place-good z q =
-      let t : anyOf (isAt p) (entries a f) ≡ true = any-first (isAt p) (entries a f) ∙ ap (λ (o : Option Entry). not (isNone o)) (sym (finding-found s z (place-hit p f c q))) in
-      rw (ne-eqb p 0 y, t)
-
-  pub place-bad : c .length ≡ 0 → true ≡ badPlace a f p
-  unfolding badPlace
-  place-bad z =
-      let t : anyOf (isAt p) (entries a f) ≡ false = any-first (isAt p) (entries a f) ∙ ap (λ (o : Option Entry). not (isNone o)) (sym (finding-end s z)) in
-      rw (ne-eqb p 0 y, t)
-
--- ---- a search for a handle that is live twice has come to a cursor
-pub record Doubling (a : Area) (f : List ℕ) (b : Bool) (c : Cursor) : Type 0 where
-  pub sound : Sound a f c
-  pub same : twice (ahead a f c) ≡ b
-
-pub doubling-start : {a : Area} {f : List ℕ} {es : List Entry} {c : Cursor} → Settled a f es c → Doubling a f (twice es) c
-doubling-start s = record { sound = s .sound; same = ap twice (s .same) }
-
-pub doubling-end : {a : Area} {f : List ℕ} {b : Bool} {c : Cursor} → Doubling a f b c → c .length ≡ 0 → false ≡ b
-doubling-end s z = ap twice (sym (ahead-end (s .sound) z)) ∙ s .same
-
-module _ {a : Area} {f : List ℕ} {b t : Bool} {c d : Cursor} {k : ℕ} (s : Doubling a f b c) (w : Settled a f (behind a f c) d) (z : c .length ≡ 0 → ⊥)
-    (e : k ≡ handleOf (getD f (c .place) 0)) (q : t ≡ anyOf (liveOf k) (ahead a f d)) where
-  by-double : t || twice (ahead a f d) ≡ b
-  unfolding entryOf
-  by-double = rw (q, e, w .same) (ap twice (sym (ahead-on (s .sound) z)) ∙ s .same)
-
-  pub doubling-on : t ≡ false → Doubling a f b d
-  doubling-on n = record { sound = w .sound; same = rw n at by-double }
-
-  pub doubling-found : t ≡ true → true ≡ b
-  doubling-found n = rw n at by-double
-
-pub ruleset finds = (fewer, finding-start, finding-here, finding-on, found-at, ends-none, found-all, live-hit, live-miss, find-dead, wanted-hit, wanted-miss)
-
-pub ruleset places = (fewer, finding-start, finding-on, place-miss, place-start, place-good, place-bad)
-
-pub ruleset doubles = (fewer, any-some, any-none, doubling-start, doubling-end, doubling-on, doubling-found)
+pub ruleset lives = (any-some, any-none)

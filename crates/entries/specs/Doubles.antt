@@ -2,13 +2,15 @@
 -- cursor changes nothing of what is ahead of it. Assumes nothing.
 use mathlib.Core.Path.{_≡_, refl, sym, ap, _∙_}
 use mathlib.Core.List.{List, [], _∷_, _++_}
-use mathlib.Core.Bool.{Bool, true, false, cond}
+use mathlib.Core.Bool.{Bool, true, false, cond, not, _&&_, _||_, true≢false}
 use mathlib.Core.Logic.{⊎-elim}
 use Prim.Native.Nat.{ℕ, suc, zero, _+_, _-_, _≤_, _<_}
 use native.Mathlib.Omega.{arith}
 use native.Mathlib.Nat.{mod-lt}
 use lib.ListN.{length, getD, take, drop}
 use lib.Seq.{take-nil, drop-drop, drop-set-lt}
+use lib.Dec.{eqb}
+use borrow.Author.Tests.{eq-eqb}
 use mir.Syntax.{w32}
 use mir.Val.{Fits}
 use Rattle.flash.specs.declared.Power.{Power}
@@ -17,12 +19,16 @@ use Rattle.flash.specs.Laws.{le-or-lt, ran-none, ran-append, ran-length}
 use Rattle.rules.specs.declared.Area.{Area}
 use Rattle.rules.specs.Words.{handleOf, lengthOf}
 use Rattle.rules.specs.Walk.{begins}
-use Rattle.rules.specs.Areas.{base, page, entriesFrom, entries, anyOf, liveOf}
+use Rattle.rules.specs.Areas.{base, page, Entry, entriesFrom, entries, anyOf, liveOf, twice}
 use Rattle.rules.specs.Lists.{bare, supersede}
+use Rattle.rules.specs.Laws.{nor-left, nor-right}
 use Rattle.rules.specs.Places.{Right, base-suc, right-ran}
 use Rattle.pages.specs.Steps.{lengthIn, lengthAt, walkAt, entriesAt}
 use Rattle.entries.specs.declared.Cursor.{Cursor}
 use Rattle.entries.specs.Ahead.{onward, ahead, behind, entryOf, Sound, Settled, drop-cut, ahead-end, ahead-on, entry-words}
+use Rattle.entries.specs.Noting.{beside}
+use Rattle.entries.specs.Repeats.{twiceIn}
+use Rattle.entries.specs.Sweeping.{twice-by, windowed-start, windowed-aside}
 
 -- one store, if it is to be made
 abbrev pub putIf : Bool → ℕ → ℕ → List Store
@@ -88,16 +94,19 @@ module _ {a : Area} {f g : List ℕ} {c : Cursor} (s : Sound a f c) (k : Kept f 
   unfolding onward entriesAt walkAt
   ahead-kept = rw (cut-kept k (c .end), rest-kept)
 
--- ---- the doubles before a cursor have been dropped: whatever the stores for what is ahead lead to, those for all entries lead to
-pub record Dropping (a : Area) (p₀ : Power) (f₀ : List ℕ) (c : Cursor) (p : Power) (f : List ℕ) : Type 0 where
+-- ---- the doubles before a cursor have been dropped: whatever the stores for what is ahead lead to, those for all entries lead to. It may be
+-- known that the handle k alone is live twice
+pub record Dropping (b : Bool) (k : ℕ) (a : Area) (p₀ : Power) (f₀ : List ℕ) (c : Cursor) (p : Power) (f : List ℕ) : Type 0 where
   pub right : Right a f
   pub sound : Sound a f c
+  pub alone : b && twiceIn (beside k) (ahead a f c) ≡ false
   pub end : (r : Power) (h : List ℕ) → Ran (supersede (ahead a f c)) p f r h → Ran (supersede (entries a f₀)) p₀ f₀ r h
 
-pub dropping-start : {a : Area} {p : Power} {f : List ℕ} {c : Cursor} → Settled a f (entries a f) c → Right a f → Dropping a p f c p f
-dropping-start s r = record { right = r; sound = s .sound; end = λ q h x. rw (s .same) at x }
+pub dropping-start : {b : Bool} {k : ℕ} {a : Area} {p : Power} {f : List ℕ} {c : Cursor} → Settled a f (entries a f) c → Right a f → b && twiceIn (beside k) (entries a f) ≡ false
+    → Dropping b k a p f c p f
+dropping-start s r o = record { right = r; sound = s .sound; alone = rw (s .same) o; end = λ q h x. rw (s .same) at x }
 
-pub dropping-end : {a : Area} {p₀ p : Power} {f₀ f : List ℕ} {c : Cursor} → Dropping a p₀ f₀ c p f → c .length ≡ 0 → Ran (supersede (entries a f₀)) p₀ f₀ p f
+pub dropping-end : {b : Bool} {k : ℕ} {a : Area} {p₀ p : Power} {f₀ f : List ℕ} {c : Cursor} → Dropping b k a p₀ f₀ c p f → c .length ≡ 0 → Ran (supersede (entries a f₀)) p₀ f₀ p f
 dropping-end {p = p} {f = f} s z = s .end p f (rw (ahead-end (s .sound) z) (ran-none p f))
 
 -- an entry's length can be stored
@@ -109,11 +118,11 @@ length-small (w ∷ ws) = go (begins w ws)
     go true = mod-lt w (omega arith)
     go false = omega arith
 
-pub length-stored : {a : Area} {p₀ p : Power} {f₀ f : List ℕ} {c : Cursor} → Dropping a p₀ f₀ c p f → Fits w32 (c .length)
+pub length-stored : {b : Bool} {k : ℕ} {a : Area} {p₀ p : Power} {f₀ f : List ℕ} {c : Cursor} → Dropping b k a p₀ f₀ c p f → Fits w32 (c .length)
 unfolding lengthAt
 length-stored {f = f} {c = c} s = record { fits = omega (arith, s .sound .entry, length-small (drop (c .place) (take (c .end) f))) }
 
-module _ {a : Area} {p₀ p q : Power} {f₀ f g : List ℕ} {c d : Cursor} (t : Bool) (s : Dropping a p₀ f₀ c p f) (w : Settled a f (behind a f c) d)
+module _ {l : Bool} {o : ℕ} {a : Area} {p₀ p q : Power} {f₀ f g : List ℕ} {c d : Cursor} (t : Bool) (s : Dropping l o a p₀ f₀ c p f) (w : Settled a f (behind a f c) d)
     (b : c .place < d .place) (x : Ran (putIf t (c .place) (c .length)) p f q g) where
   kept : Kept f g (d .place)
   kept = record { long = ran-length x; words = ran-kept t (c .place) (c .length) (d .place) x b }
@@ -126,23 +135,68 @@ module _ {a : Area} {p₀ p q : Power} {f₀ f g : List ℕ} {c d : Cursor} (t :
     pub dropping-fewer : length (ahead a g d) < length (ahead a f c)
     dropping-fewer = rw (same, ahead-on (s .sound) z) (omega arith)
 
-    module _ {k : ℕ} (e : k ≡ handleOf (getD f (c .place) 0)) (u : t ≡ anyOf (liveOf k) (ahead a f d)) where
+    module _ {k : ℕ} (e : k ≡ handleOf (getD f (c .place) 0)) (u : t ≡ not (l && not (eqb k o)) && anyOf (liveOf k) (ahead a f d)) where
+      here : l && ((not (eqb k o) && anyOf (liveOf k) (behind a f c)) || twiceIn (beside o) (behind a f c)) ≡ false
+      unfolding entryOf
+      here = rw e (rw (ahead-on (s .sound) z) at (s .alone))
+
+      -- a handle that is not looked for is not live behind
+      looked : t ≡ anyOf (liveOf k) (behind a f c)
+      looked = (rw (w .same) at u) ∙ go l (not (eqb k o)) (anyOf (liveOf k) (behind a f c)) (twiceIn (beside o) (behind a f c)) here
+        where
+          go : (i j m n : Bool) → i && ((j && m) || n) ≡ false → not (i && j) && m ≡ m
+          go true true true n y = absurd (true≢false y)
+          go true true false n y = refl
+          go true false m n y = refl
+          go false j m n y = refl
+
       stores-here : supersede (ahead a f c) ≡ putIf t (c .place) (c .length) ++ supersede (behind a f c)
       unfolding entryOf
       stores-here =
-          let v : anyOf (liveOf (handleOf (getD f (c .place) 0))) (behind a f c) ≡ t = sym (u ∙ rw (e, w .same)) in
+          let v : anyOf (liveOf (handleOf (getD f (c .place) 0))) (behind a f c) ≡ t = sym (looked ∙ rw e) in
           ap supersede (ahead-on (s .sound) z) ∙ rw v (go t)
         where
           go : (b : Bool) → cond b (bare (entryOf f c) ∷ supersede (behind a f c)) (supersede (behind a f c)) ≡ putIf b (c .place) (c .length) ++ supersede (behind a f c)
           go true = let n : length (entryOf f c .words) + 1 ≡ c .length = omega (arith, entry-words (s .sound) z) in rw n
           go false = refl
 
-      pub dropping-on : Dropping a p₀ f₀ d q g
+      pub dropping-on : Dropping l o a p₀ f₀ d q g
       dropping-on =
           record {
             right = right-ran x (s .right);
             sound = sound-kept (w .sound) kept;
+            alone = rw same (rest l (not (eqb k o) && anyOf (liveOf k) (behind a f c)) (twiceIn (beside o) (behind a f c)) here);
             end = λ r h y. s .end r h (rw stores-here (ran-append x (rw same at y)));
           }
+        where
+          rest : (i j n : Bool) → i && (j || n) ≡ false → i && n ≡ false
+          rest true true n y = absurd (true≢false y)
+          rest true false n y = y
+          rest false j n y = refl
 
 pub ruleset drops = (put-wanted, put-unwanted, dropping-start, dropping-on, dropping-fewer, dropping-end, length-stored, ran-length)
+
+-- ---- whether a handle is looked for
+module _ (b : Bool) (k o : ℕ) (es : List Entry) where
+  pub unlooked : b && not (eqb k o) ≡ true → false ≡ not (b && not (eqb k o)) && anyOf (liveOf k) es
+  unlooked y = rw y
+
+  pub is-looked : {r : Bool} → b && not (eqb k o) ≡ false → r ≡ anyOf (liveOf k) es → r ≡ not (b && not (eqb k o)) && anyOf (liveOf k) es
+  is-looked y q = q ∙ rw y
+
+-- ---- no handle is live twice, and one alone
+pub alone-is : (r k : ℕ) (es : List Entry) → eqb r 0 ≡ not (twiceIn (beside k) es) → eqb r 0 && twiceIn (beside k) es ≡ false
+alone-is r k es e = rw e (go (twiceIn (beside k) es))
+  where
+    go : (b : Bool) → not b && b ≡ false
+    go true = refl
+    go false = refl
+
+once-none : (es : List Entry) → twice es ≡ false → supersede es ≡ []
+once-none [] z = refl
+once-none (e ∷ es) z = rw (nor-left (anyOf (liveOf (e .handle)) es) (twice es) z) (once-none es (nor-right (anyOf (liveOf (e .handle)) es) (twice es) z))
+
+pub none-dropped : {p : Power} (a : Area) (f : List ℕ) (r : ℕ) → eqb r 0 ≡ not (twiceIn (beside 0) (entries a f)) → r ≡ 0 → Ran (supersede (entries a f)) p f p f
+none-dropped {p} a f r e z = rw (once-none (entries a f) (sym (twice-by r (entries a f) e) ∙ ap not (eq-eqb r 0 z))) (ran-none p f)
+
+pub ruleset dropped = (unlooked, is-looked, alone-is, none-dropped, windowed-start, windowed-aside)

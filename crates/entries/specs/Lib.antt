@@ -1,3 +1,7 @@
 pub mod Ahead
-pub mod Holding
+pub mod Pages
+pub mod Step
+pub mod Noting
+pub mod Repeats
+pub mod Sweeping
 pub mod Doubles

@@ -1,25 +1,26 @@
-// The area's entries, one behind the other through its pages: a walk over them, the entry of a
-// handle and its data, handles that are live twice and the stores that mend it, the next match of a
-// filter, and the places of headers. Promises are the definitions of `rules`.
+// The area's entries, one behind the other through its pages: a walk over them, handles that are live
+// twice and the stores that mend it, and a step of a search by a filter. Promises are the definitions
+// of `rules`.
 //
 // Every function here is proved. Each public one asks for a right geometry, but `up_to`, which asks
 // for a place inside the run, and `passes`, which asks for nothing; `after` asks too that its cursor
-// stands at an entry. `drop_doubles` alone stores; the others change no word.
+// stands at an entry. `drop_in` and `drop_doubles` alone store; the others change no word.
 ghost use mathlib.Core.Bool.{_&&_};
 ghost use mathlib.Core.Path.{_≡_};
-ghost use Prim.Native.Nat.{suc, min, _+_, _≤_, _<_};
+ghost use Prim.Native.Nat.{min, _+_, _≤_, _<_};
 ghost use lib.Bits.{bitAnd};
 ghost use lib.Dec.{eqb};
-ghost use lib.ListN.{length, take, drop};
-ghost use Rattle.flash.specs.Stores.{Ran};
+ghost use lib.ListN.{length, take};
 ghost use Rattle.rules.specs.Words.{isLive};
 ghost use Rattle.rules.specs.Areas.{entries, anyOf, liveOf, twice, find};
-ghost use Rattle.rules.specs.Refusals.{sameWords, holds};
-ghost use Rattle.rules.specs.Lists.{dropDoubles};
 ghost use Rattle.rules.specs.Search.{next, badPlace};
 ghost use Rattle.rules.specs.Places.{Right};
+ghost use Rattle.entries.specs.Pages.{From, Reached};
+ghost use Rattle.entries.specs.Step.{steppedOf};
 ghost use Rattle.entries.specs.Ahead.{foundOf, onward, ahead, behind, Ends, Sound, Settled};
-ghost use Rattle.entries.specs.Doubles.{putIf};
+
+pub mod doubles; // doubles.rt: handles that are live twice
+
 use flash::Power;
 use rules::Area;
 
@@ -27,6 +28,14 @@ use rules::Area;
 pub enum Found {
     At { place: usize, words: usize },
     None,
+}
+
+// What a step of a search finds: the place of a match's header in the run, no match, or that it
+// cannot start where it should.
+pub enum Stepped {
+    At(usize),
+    None,
+    BadPlace,
 }
 
 // A place that a walk over the area's entries has come to: an entry's header in the run, the
@@ -120,52 +129,6 @@ fn find_from(flash: &[u32], area: Area, start: Cursor, handle: u32) -> Found
     Found::None
 }
 
-// The first live entry of a handle in area order; none for handle 0000.
-pub fn find(flash: &[u32], area: Area, handle: u32) -> Found
-    requires { ⌜ Right area (now flash) ⌝ }
-    ensures { λ r. ⌜ r ≡ foundOf (find handle (entries area (now (flash .entry)))) ⌝ }
-{
-    find_from(flash, area, first(flash, area), handle)
-}
-
-// The data of an entry: so many words of the run behind a place.
-fn data_at(flash: &[u32], place: usize, words: usize) -> &[u32]
-    requires { ⌜ place + words < length (now flash) ⌝ }
-    ensures { λ r. ⌜ now r ≡ take words (drop (suc place) (now (flash .entry))) ⌝ }
-{
-    let start = place + 1;
-    let end = start + words;
-    &flash[start..end]
-}
-
-// Whether two lists of words are the same.
-fn same_words(xs: &[u32], ys: &[u32]) -> bool
-    ensures { λ r. ⌜ r ≡ sameWords (now (xs .entry)) (now (ys .entry)) ⌝ }
-{
-    if xs.len() != ys.len() {
-        return false;
-    }
-    let mut i: usize = 0;
-    while i < xs.len() {
-        if xs[i] != ys[i] {
-            return false;
-        }
-        i += 1;
-    }
-    true
-}
-
-// Whether a handle's live entry has these very data; false if it has none.
-pub fn holds(flash: &[u32], area: Area, handle: u32, data: &[u32]) -> bool
-    requires { ⌜ Right area (now flash) ⌝ }
-    ensures { λ r. ⌜ r ≡ holds area (now (flash .entry)) handle (now («data» .entry)) ⌝ }
-{
-    match find(flash, area, handle) {
-        Found::At { place, words } => same_words(data_at(flash, place, words), data),
-        Found::None => false,
-    }
-}
-
 // Whether a handle is live from a cursor on.
 fn is_live_from(flash: &[u32], area: Area, start: Cursor, handle: u32) -> bool
     requires { ⌜ Right area (now flash) × Sound area (now flash) start ⌝ }
@@ -177,51 +140,24 @@ fn is_live_from(flash: &[u32], area: Area, start: Cursor, handle: u32) -> bool
     }
 }
 
-// Whether some handle is live twice.
-pub fn live_twice(flash: &[u32], area: Area) -> bool
+// A cursor from which on all entries are ahead that lie at a place or behind it: at the first entry
+// of the page that the place lies in, or behind the last entry.
+fn from_page_of(flash: &[u32], area: Area, place: usize) -> Cursor
     requires { ⌜ Right area (now flash) ⌝ }
-    ensures { λ r. ⌜ r ≡ twice (entries area (now (flash .entry))) ⌝ }
+    ensures { λ r. ⌜ From area (now (flash .entry)) place r ⌝ }
 {
-    let mut cursor = first(flash, area);
-    while cursor.length != 0 {
-        let place = cursor.place;
-        let handle = pages::handle_of(flash[place]);
-        let next = after(flash, area, cursor);
-        if is_live_from(flash, area, next, handle) {
-            return true;
-        }
-        cursor = next;
+    let index = place / area.words;
+    if area.pages <= index {
+        return first(flash, area);
     }
-    false
-}
-
-// Stores a word at a place, if it is to be stored.
-fn store_if(flash: &mut [u32], wanted: bool, at: usize, word: u32, power: Power) -> Power
-    ensures { λ r. ⌜ Ran (putIf wanted at word) power (now (flash .entry)) r (now (flash .exit)) ⌝ }
-{
-    if wanted {
-        return flash::store(flash, at, word, power);
-    }
-    power
-}
-
-// Stores to its bare length the header of each entry whose handle is live behind it, in area order,
-// so that of the live entries of a handle the last one stays.
-pub fn drop_doubles(flash: &mut [u32], area: Area, power: Power) -> Power
-    requires { ⌜ Right area (now flash) ⌝ }
-    ensures { λ r. ⌜ Ran (dropDoubles area (now (flash .entry))) power (now (flash .entry)) r (now (flash .exit)) ⌝ }
-{
-    let mut p = power;
-    let mut cursor = first(flash, area);
-    while cursor.length != 0 {
-        let place = cursor.place;
-        let handle = pages::handle_of(flash[place]);
-        let next = after(flash, area, cursor);
-        let doubled = is_live_from(flash, area, next, handle);
-        p = store_if(flash, doubled, place, cursor.length as u32, p);
-        cursor = next;
-    }
-    p
+    let base = index * area.words;
+    settle(
+        flash,
+        area,
+        base + 2,
+        base + area.words,
+        area.pages - 1 - index,
+    )
 }
 
 // Whether a handle is a live one that the filter lets through.
@@ -231,39 +167,35 @@ pub fn passes(handle: u32, mask: u32, pattern: u32) -> bool
     (handle != 0) & (handle & mask == pattern & mask)
 }
 
-// The next match behind a place.
-pub fn next_match(flash: &[u32], area: Area, mask: u32, pattern: u32, start: usize) -> Found
+// The cursor at the first entry that lies at a place or behind it, or behind the last entry.
+fn from_place(flash: &[u32], area: Area, place: usize) -> Cursor
     requires { ⌜ Right area (now flash) ⌝ }
-    ensures { λ r. ⌜ r ≡ foundOf (next area (now (flash .entry)) mask pattern start) ⌝ }
+    ensures { λ r. ⌜ Reached area (now (flash .entry)) place r ⌝ }
 {
-    let mut cursor = first(flash, area);
+    let mut cursor = from_page_of(flash, area, place);
+    while (cursor.length != 0) & (cursor.place < place) {
+        cursor = after(flash, area, cursor);
+    }
+    cursor
+}
+
+// A step of a search: the next match behind a place, if the place is 0 or that of an entry's
+// header. It walks once: places grow in area order, so the first entry that does not lie in front of
+// the place tells whether one begins there.
+pub fn step(flash: &[u32], area: Area, mask: u32, pattern: u32, start: usize) -> Stepped
+    requires { ⌜ Right area (now flash) ⌝ }
+    ensures { λ r. ⌜ r ≡ steppedOf (badPlace area (now (flash .entry)) start) (next area (now (flash .entry)) mask pattern start) ⌝ }
+{
+    let mut cursor = from_place(flash, area, start);
+    if (start != 0) & ((cursor.length == 0) | (cursor.place != start)) {
+        return Stepped::BadPlace;
+    }
     while cursor.length != 0 {
         let place = cursor.place;
         if (start < place) & passes(pages::handle_of(flash[place]), mask, pattern) {
-            return Found::At {
-                place,
-                words: cursor.length - 1,
-            };
+            return Stepped::At(place);
         }
         cursor = after(flash, area, cursor);
     }
-    Found::None
-}
-
-// Whether a search cannot start behind a place: it is neither 0 nor that of an entry's header.
-pub fn bad_place(flash: &[u32], area: Area, start: usize) -> bool
-    requires { ⌜ Right area (now flash) ⌝ }
-    ensures { λ r. ⌜ r ≡ badPlace area (now (flash .entry)) start ⌝ }
-{
-    if start == 0 {
-        return false;
-    }
-    let mut cursor = first(flash, area);
-    while cursor.length != 0 {
-        if cursor.place == start {
-            return false;
-        }
-        cursor = after(flash, area, cursor);
-    }
-    true
+    Stepped::None
 }

@@ -4,20 +4,20 @@
 // power is answered. A request that reads changes no word. One that stores is given power for so many
 // stores, and answers how many were made.
 ghost use mathlib.Core.Bool.{true};
-ghost use mathlib.Core.List.{[], _∷_};
 ghost use mathlib.Core.Path.{_≡_};
-ghost use Prim.Native.Nat.{_≤_, _<_};
-ghost use lib.ListN.{length};
-ghost use Rattle.rules.specs.declared.Refusal.the-variants.{BadHandle, BadLength};
+ghost use Prim.Native.Nat.{suc, _+_, min, _≤_, _<_};
+ghost use lib.ListN.{length, take, drop};
+ghost use Rattle.rules.specs.Words.{longest};
+ghost use Rattle.rules.specs.Walk.{entryLength};
 ghost use Rattle.rules.specs.Areas.{ready};
-ghost use Rattle.rules.specs.Refusals.{badHandle, badLength, readyChecks};
+ghost use Rattle.rules.specs.Refusals.{badHandle, sameWords};
 ghost use Rattle.rules.specs.Lists.{format, recover, write, delete};
 ghost use Rattle.rules.specs.Laws.{answerOf};
 ghost use Rattle.rules.specs.Places.{Right};
-ghost use Rattle.area.specs.Checks.{checksOf};
+ghost use Rattle.survey.specs.Surveying.{viewOf};
 ghost use Rattle.manager.specs.Reading.{Reads};
+ghost use Rattle.manager.specs.Holding.{lastWord, hasWords};
 ghost use Rattle.manager.specs.Storing.{Answers, full, Rest};
-use area::Checked;
 use entries::Found;
 use flash::Power;
 use rules::Answer;
@@ -25,6 +25,9 @@ use rules::Area;
 use rules::Reading;
 use rules::Refusal;
 use rules::SPECIAL;
+use survey::Looked;
+use survey::Surveyed;
+use survey::View;
 
 // Whether no entry can be live under a handle.
 fn bad_handle(handle: u32) -> bool
@@ -39,13 +42,14 @@ fn bad_handle(handle: u32) -> bool
 pub fn read(flash: &[u32], area: Area, handle: u16) -> Reading
     ensures { λ r. ⌜ Reads area handle (now (flash .entry)) r ⌝ }
 {
-    match area::check_ready(flash, area) {
-        Checked::Refused(why) => Reading::Refused(why),
-        Checked::Passed => {
+    match survey::survey(flash, area, handle as u32, 0) {
+        Surveyed::Refused(why) => Reading::Refused(why),
+        Surveyed::Ready(view) => {
             if bad_handle(handle as u32) {
                 return Reading::Refused(Refusal::BadHandle);
             }
-            match entries::find(flash, area, handle as u32) {
+            let entry = view.entry;
+            match entry {
                 Found::None => Reading::Refused(Refusal::NotFound),
                 Found::At { place, words } => Reading::At { place, words },
             }
@@ -86,15 +90,20 @@ pub fn format(flash: &mut [u32], area: Area, power: u32) -> Answer
     answer(power, rest)
 }
 
-// Makes an undamaged area ready, from wherever the power was cut. Refused are a wrong geometry and a
-// damaged area.
+// Makes an undamaged area ready, from wherever the power was cut; one that is ready takes no store.
+// Where R is free and all pages are sealed, doubles alone are left to drop, by what was seen of them.
+// Refused are a wrong geometry and a damaged area.
 pub fn recover(flash: &mut [u32], area: Area, power: u32) -> Answer
     ensures { λ r. ⌜ Answers area recover power (now (flash .entry)) r (now (flash .exit)) ⌝ }
 {
-    match area::check_undamaged(flash, area) {
-        Checked::Refused(why) => Answer::Refused(why),
-        Checked::Passed => {
+    match survey::look(flash, area, 0, 0) {
+        Looked::Refused(why) => Answer::Refused(why),
+        Looked::Unsealed => {
             let rest = recovery::recover(flash, area, full(power));
+            answer(power, rest)
+        }
+        Looked::Sealed(sight) => {
+            let rest = entries::doubles::drop_in(flash, area, sight.windows, full(power));
             answer(power, rest)
         }
     }
@@ -105,13 +114,14 @@ pub fn recover(flash: &mut [u32], area: Area, power: u32) -> Answer
 pub fn delete(flash: &mut [u32], area: Area, handle: u16, power: u32) -> Answer
     ensures { λ r. ⌜ Answers area (delete handle) power (now (flash .entry)) r (now (flash .exit)) ⌝ }
 {
-    match area::check_ready(flash, area) {
-        Checked::Refused(why) => Answer::Refused(why),
-        Checked::Passed => {
+    match survey::survey(flash, area, handle as u32, 0) {
+        Surveyed::Refused(why) => Answer::Refused(why),
+        Surveyed::Ready(view) => {
             if bad_handle(handle as u32) {
                 return Answer::Refused(Refusal::BadHandle);
             }
-            match entries::find(flash, area, handle as u32) {
+            let entry = view.entry;
+            match entry {
                 Found::None => Answer::Refused(Refusal::NotFound),
                 Found::At { place, words } => {
                     let rest = stores::bare(flash, place, words, full(power));
@@ -122,36 +132,74 @@ pub fn delete(flash: &mut [u32], area: Area, handle: u16, power: u32) -> Answer
     }
 }
 
-// The checks of a write that come before NOROOM.
-fn check_entry(flash: &[u32], area: Area, handle: u32, data: &[u32]) -> Checked
-    ensures { λ r. ⌜ r ≡ checksOf (readyChecks area (now (flash .entry)) ((badHandle handle, BadHandle) ∷ (badLength (now («data» .entry)), BadLength) ∷ [])) ⌝ }
+// The words of an entry with these data; those of the longest, if no entry can have them.
+fn entry_words(data: &[u32]) -> usize
+    ensures { λ r. ⌜ (r ≡ min (entryLength (now («data» .entry))) longest) × (r ≤ longest) ⌝ }
 {
-    match area::check_ready(flash, area) {
-        Checked::Refused(why) => Checked::Refused(why),
-        Checked::Passed => {
-            if bad_handle(handle) {
-                return Checked::Refused(Refusal::BadHandle);
-            }
-            if 32 < data.len() {
-                return Checked::Refused(Refusal::BadLength);
-            }
-            Checked::Passed
+    if data.len() <= 32 {
+        return data.len() + 1;
+    }
+    33
+}
+
+// The data of an entry: so many words of the run behind a place.
+fn data_at(flash: &[u32], place: usize, words: usize) -> &[u32]
+    requires { ⌜ place + words < length (now flash) ⌝ }
+    ensures { λ r. ⌜ now r ≡ take words (drop (suc place) (now (flash .entry))) ⌝ }
+{
+    let start = place + 1;
+    let end = start + words;
+    &flash[start..end]
+}
+
+// Whether two lists of words are the same.
+fn same_words(xs: &[u32], ys: &[u32]) -> bool
+    ensures { λ r. ⌜ r ≡ sameWords (now (xs .entry)) (now (ys .entry)) ⌝ }
+{
+    if xs.len() != ys.len() {
+        return false;
+    }
+    let mut i: usize = 0;
+    while i < xs.len() {
+        if xs[i] != ys[i] {
+            return false;
         }
+        i += 1;
+    }
+    true
+}
+
+// Whether the entry found has these very data; false if none was found.
+fn has_words(flash: &[u32], found: Found, data: &[u32]) -> bool
+    requires { ⌜ lastWord found < length (now flash) ⌝ }
+    ensures { λ r. ⌜ r ≡ hasWords (now (flash .entry)) found (now («data» .entry)) ⌝ }
+{
+    match found {
+        Found::At { place, words } => same_words(data_at(flash, place, words), data),
+        Found::None => false,
     }
 }
 
 // The rest of a write, on a ready area, of a handle and data that can be written.
-fn write_entry(flash: &mut [u32], area: Area, handle: u32, data: &[u32], power: u32) -> Answer
-    requires { ⌜ Right area (now flash) × (ready area (now flash) ≡ true) × (handle < 65536) × (length (now «data») ≤ 32) ⌝ }
+fn write_entry(
+    flash: &mut [u32],
+    area: Area,
+    view: View,
+    handle: u32,
+    data: &[u32],
+    power: u32,
+) -> Answer
+    requires { ⌜ Right area (now flash) × (ready area (now flash) ≡ true) × (view ≡ viewOf area (now flash) handle (entryLength (now «data»))) × (handle < 65536) × (length (now «data») ≤ 32) ⌝ }
     ensures { λ r. ⌜ Rest area handle (now («data» .entry)) power (now (flash .entry)) r (now (flash .exit)) ⌝ }
 {
-    if entries::holds(flash, area, handle, data) {
+    let entry = view.entry;
+    if has_words(flash, entry, data) {
         return Answer::Done(0);
     }
-    if room::is_full(flash, area, room::size_of(area.words), data.len() + 1) {
+    if survey::is_full(area, view.live, data.len() + 1) {
         return Answer::Refused(Refusal::NoRoom);
     }
-    let rest = writing::write(flash, area, handle, data, full(power));
+    let rest = writing::write(flash, area, view, handle, data, full(power));
     answer(power, rest)
 }
 
@@ -161,8 +209,16 @@ fn write_entry(flash: &mut [u32], area: Area, handle: u32, data: &[u32], power: 
 pub fn write(flash: &mut [u32], area: Area, handle: u16, data: &[u32], power: u32) -> Answer
     ensures { λ r. ⌜ Answers area (write handle (now («data» .entry))) power (now (flash .entry)) r (now (flash .exit)) ⌝ }
 {
-    match check_entry(flash, area, handle as u32, data) {
-        Checked::Refused(why) => Answer::Refused(why),
-        Checked::Passed => write_entry(flash, area, handle as u32, data, power),
+    match survey::survey(flash, area, handle as u32, entry_words(data)) {
+        Surveyed::Refused(why) => Answer::Refused(why),
+        Surveyed::Ready(view) => {
+            if bad_handle(handle as u32) {
+                return Answer::Refused(Refusal::BadHandle);
+            }
+            if 32 < data.len() {
+                return Answer::Refused(Refusal::BadLength);
+            }
+            write_entry(flash, area, view, handle as u32, data, power)
+        }
     }
 }

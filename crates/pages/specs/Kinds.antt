@@ -2,14 +2,18 @@
 use mathlib.Core.Path.{_≡_, refl, sym, ap, _∙_}
 use mathlib.Core.List.{List, [], _∷_}
 use mathlib.Core.Logic.{⊎-elim}
-use mathlib.Core.Bool.{Bool, true, false, cond, _&&_}
-use Prim.Native.Nat.{ℕ, suc, zero, _+_, _-_, _≤_, _<_}
+use mathlib.Core.Bool.{Bool, true, false, cond, _&&_, and-assoc, and-true}
+use Prim.Native.Nat.{ℕ, suc, zero, _+_, _-_, _^_, _≤_, _<_}
 use native.Mathlib.Omega.{arith}
+use native.Mathlib.Nat.{mod-eq-of-lt}
 use native.Mathlib.Numerals.{add-one}
 use lib.ListN.{length, getD, drop, length-drop, drop-of-length-le}
 use lib.Seq.{drop-cons, drop-drop}
+use lib.Bits.{bitAnd, and-comm, and-mask, and-le-l}
 use lib.Dec.{ltb, eqb}
 use borrow.Author.Tests.{eq-eqb, ne-eqb, lt-ltb, le-ltb, not-true, not-false}
+use mir.Syntax.{w32}
+use mir.Val.{Fits}
 use Rattle.flash.specs.Stores.{blank}
 use Rattle.flash.specs.Laws.{le-or-lt}
 use Rattle.rules.specs.declared.Kind.{Kind}
@@ -20,26 +24,46 @@ use Rattle.rules.specs.Walk.{begins, walkIn, rest, stop, allBlank, endKind, met
 use Rattle.rules.specs.Areas.{recoveryOf}
 use Rattle.pages.specs.Steps.{short-rest}
 
--- ---- the words from at to i are blank: those from i on decide
-pub record Blanking (p : List ℕ) (at i : ℕ) : Type 0 where
-  pub same : allBlank (drop i p) ≡ allBlank (drop at p)
+-- ---- words are all blank where what they have in common is
+common-blank : (c w : ℕ) → c ≤ blank → w ≤ blank → eqb (bitAnd c w) blank ≡ eqb c blank && eqb w blank
+common-blank c w h l = ⊎-elim all other (le-or-lt blank c)
+  where
+    all : blank ≤ c → eqb (bitAnd c w) blank ≡ eqb c blank && eqb w blank
+    all b =
+        let e : c ≡ blank = omega arith in
+        let k : w < 2 ^ 32 = omega arith in
+        let o : bitAnd blank w ≡ w = and-comm blank w ∙ and-mask w 32 ∙ mod-eq-of-lt k in
+        rw (e, o)
 
-pub blanking-start : {p : List ℕ} {at : ℕ} → Blanking p at at
-blanking-start = record { same = refl }
+    other : c < blank → eqb (bitAnd c w) blank ≡ eqb c blank && eqb w blank
+    other b =
+        let n : c ≡ blank → ⊥ = λ e. omega arith in
+        let m : bitAnd c w ≡ blank → ⊥ = λ e. omega (arith, and-le-l c w) in
+        rw (ne-eqb c blank n, ne-eqb (bitAnd c w) blank m)
 
-blank-more : (p : List ℕ) (i : ℕ) → i < length p → allBlank (drop i p) ≡ eqb (getD p i 0) blank && allBlank (drop (i + 1) p)
-blank-more p i h = rw (add-one, drop-cons p i 0 h)
+-- c is what the words from at to i have in common: it and the words from i on decide
+pub record Blanking (p : List ℕ) (at i c : ℕ) : Type 0 where
+  pub same : eqb c blank && allBlank (drop i p) ≡ allBlank (drop at p)
+  pub below : c ≤ blank
 
-pub blanking-on : {p : List ℕ} {at i : ℕ} → Blanking p at i → i < length p → getD p i 0 ≡ blank → Blanking p at (i + 1)
-blanking-on {p} {at} {i} b h n = record { same = sym (rw (eq-eqb (getD p i 0) blank n) at (blank-more p i h)) ∙ b .same }
+pub blanking-start : {p : List ℕ} {at : ℕ} → Blanking p at at blank
+blanking-start = record { same = refl; below = omega arith }
 
-pub blanking-stop : {p : List ℕ} {at i : ℕ} → Blanking p at i → i < length p → (getD p i 0 ≡ blank → ⊥) → false ≡ allBlank (drop at p)
-blanking-stop {p} {at} {i} b h n = sym (rw (ne-eqb (getD p i 0) blank n) at (blank-more p i h)) ∙ b .same
+pub blanking-on : {p : List ℕ} {at i c : ℕ} → Blanking p at i c → i < length p → Fits w32 (getD p i 0) → Blanking p at (i + 1) (bitAnd c (getD p i 0))
+blanking-on {p} {at} {i} {c} b h f =
+    let w = getD p i 0 in
+    let n = b .below in
+    let m = f .fits in
+    let l : w ≤ blank = omega arith in
+    record {
+      same = rw (common-blank c w n l, add-one i) (and-assoc (eqb c blank) (eqb w blank) (allBlank (drop (suc i) p)) ∙ rw (drop-cons p i 0 h) at (b .same));
+      below = omega (arith, and-le-l c w);
+    }
 
-pub blanking-end : {p : List ℕ} {at i : ℕ} → Blanking p at i → length p ≤ i → true ≡ allBlank (drop at p)
-blanking-end {p} {at} {i} b h = rw (drop-of-length-le p h) at (b .same)
+pub blanking-end : {p : List ℕ} {at i c : ℕ} → Blanking p at i c → length p ≤ i → eqb c blank ≡ allBlank (drop at p)
+blanking-end {p} {at} {i} {c} b h = sym (and-true (eqb c blank)) ∙ rw (drop-of-length-le p h) at (b .same)
 
-pub ruleset blanks = (blanking-start, blanking-on, blanking-stop, blanking-end)
+pub ruleset blanks = (blanking-start, blanking-on, blanking-end)
 
 -- ---- where a walk stops the words from there on are left
 pub rest-suffix : (k : ℕ) (ws : List ℕ) → (length (walkIn k ws .rest) ≤ length ws) × (walkIn k ws .rest ≡ drop (length ws - length (walkIn k ws .rest)) ws)

@@ -2,7 +2,7 @@
 // what a recovery page is. Promises are the definitions of `rules`, and `lengthAt`, which says the
 // walk's test of one place.
 //
-// Every function here is proved, and none has a `requires`.
+// Every function here is proved. `kind_at` alone has a `requires`: that it is told where the walk stops.
 ghost use mathlib.Core.Path.{_≡_};
 ghost use Prim.Native.Nat.{_-_, _≤_, _<_};
 ghost use lib.ListN.{length, drop};
@@ -70,14 +70,13 @@ pub fn stop(page: &[u32]) -> usize
 pub fn blank_from(page: &[u32], at: usize) -> bool
     ensures { λ r. ⌜ r ≡ allBlank (drop at (now (page .entry))) ⌝ }
 {
+    let mut common = BLANK;
     let mut i = at;
     while i < page.len() {
-        if page[i] != BLANK {
-            return false;
-        }
+        common = common & page[i];
         i += 1;
     }
-    true
+    common == BLANK
 }
 
 // Whether a page has the metadata of the page with the index in an area of so many pages.
@@ -90,14 +89,14 @@ fn meta_right(page: &[u32], pages: u32, index: u32) -> bool
     (first == META0) & (second as u64 == wanted)
 }
 
-// What the page with the index in an area of so many pages is.
-pub fn kind_of(page: &[u32], pages: u32, index: u32) -> Kind
+// What the page with the index in an area of so many pages is, by the place where its walk stops.
+pub fn kind_at(page: &[u32], pages: u32, index: u32, at: usize) -> Kind
+    requires { ⌜ at ≡ stop (now page) ⌝ }
     ensures { λ r. ⌜ r ≡ kindOf pages index (now (page .entry)) ⌝ }
 {
     if !meta_right(page, pages, index) {
         return Kind::Neither;
     }
-    let at = stop(page);
     if page.len() <= at {
         return Kind::Neither;
     }
@@ -112,6 +111,13 @@ pub fn kind_of(page: &[u32], pages: u32, index: u32) -> Kind
         return Kind::Torn;
     }
     Kind::Neither
+}
+
+// What the page with the index in an area of so many pages is.
+pub fn kind_of(page: &[u32], pages: u32, index: u32) -> Kind
+    ensures { λ r. ⌜ r ≡ kindOf pages index (now (page .entry)) ⌝ }
+{
+    kind_at(page, pages, index, stop(page))
 }
 
 // What the recovery page of an area of so many pages is.

@@ -118,5 +118,5 @@ pub fn recover(flash: &mut [u32], area: Area, power: Power) -> Power
 {
     let a = finish(flash, area, power);
     let b = mend_pages(flash, area, a);
-    entries::drop_doubles(flash, area, b)
+    entries::doubles::drop_doubles(flash, area, b)
 }

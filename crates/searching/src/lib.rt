@@ -3,11 +3,11 @@
 // Every function here is proved, and none has a `requires`: any area, run, filter and place is
 // answered. A search changes no word.
 ghost use Rattle.searching.specs.Searching.{Searches};
-use area::Checked;
-use entries::Found;
+use entries::Stepped;
 use rules::Area;
 use rules::Refusal;
 use rules::Yielded;
+use survey::Surveyed;
 
 pub mod object; // object.rt: a search as an object
 
@@ -18,15 +18,13 @@ pub mod object; // object.rt: a search as an object
 pub fn search(flash: &[u32], area: Area, mask: u16, pattern: u16, place: usize) -> Yielded
     ensures { λ r. ⌜ Searches area mask pattern place (now (flash .entry)) r ⌝ }
 {
-    match area::check_ready(flash, area) {
-        Checked::Refused(why) => Yielded::Refused(why),
-        Checked::Passed => {
-            if entries::bad_place(flash, area, place) {
-                return Yielded::Refused(Refusal::BadPlace);
-            }
-            match entries::next_match(flash, area, mask as u32, pattern as u32, place) {
-                Found::None => Yielded::Refused(Refusal::NotFound),
-                Found::At { place, words: _ } => Yielded::At(place),
+    match survey::survey(flash, area, 0, 0) {
+        Surveyed::Refused(why) => Yielded::Refused(why),
+        Surveyed::Ready(_) => {
+            match entries::step(flash, area, mask as u32, pattern as u32, place) {
+                Stepped::BadPlace => Yielded::Refused(Refusal::BadPlace),
+                Stepped::None => Yielded::Refused(Refusal::NotFound),
+                Stepped::At(at) => Yielded::At(at),
             }
         }
     }

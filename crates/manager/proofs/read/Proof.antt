@@ -1,32 +1,29 @@
--- `read` makes its checks in their order and answers what was found. Assumes nothing.
+-- `read` surveys, and answers what was found. Assumes nothing.
 use borrow.Author.Needs.{needs}
 use Rattle.manager.specs.Reading.{reads}
 use Rattle.manager.proofs.read.Statement.{statement}
 use Rattle.manager.proofs.read.Tie as tie
 
-check-ready-requires : tie.Need-check-ready-requires
-check-ready-requires c κs = search needs
+survey-requires : tie.Need-survey-requires
+survey-requires c κs = search (needs, reads)
 
 enum-known-why : tie.Need-enum-known-why
-enum-known-why c = search needs
+enum-known-why c = search (needs, reads)
 
-enum-told : tie.Need-enum-told
-enum-told c = search needs
+enum-known-view : tie.Need-enum-known-view
+enum-known-view c = search (needs, reads)
 
 bad-handle-requires : tie.Need-bad-handle-requires
-bad-handle-requires c κs = search needs
+bad-handle-requires c κs = search (needs, reads)
 
 returns : tie.Need-returns
 returns c = search (needs, reads)
 
-find-requires : tie.Need-find-requires
-find-requires c κs = search (needs, reads)
+enum-told : tie.Need-enum-told
+enum-told c = search (needs, reads)
 
-enum-told-2 : tie.Need-enum-told-2
-enum-told-2 c = search needs
-
-enum-known-place : tie.Need-enum-known-place
-enum-known-place c = search needs
+enum-known-entry : tie.Need-enum-known-entry
+enum-known-entry c = search (needs, reads)
 
 returns-2 : tie.Need-returns-2
 returns-2 c = search (needs, reads)
@@ -41,14 +38,13 @@ pub read-spec : {M : Type 1} → statement M
 read-spec =
     tie.close
     (tie.spec
-    check-ready-requires
+    survey-requires
     enum-known-why
-    enum-told
+    enum-known-view
     bad-handle-requires
     returns
-    find-requires
-    enum-told-2
-    enum-known-place
+    enum-told
+    enum-known-entry
     returns-2
     returns-3
     returns-4)

@@ -1,38 +1,29 @@
 -- `write` takes the page with room, or makes it. Assumes nothing.
-use Rattle.writing.specs.Appending.{appends}
 use borrow.Author.Needs.{needs}
+use Rattle.writing.specs.Appending.{appends}
 use Rattle.writing.proofs.write.Statement.{statement}
 use Rattle.writing.proofs.write.Tie as tie
 
-size-of-requires : tie.Need-size-of-requires
-size-of-requires c κs = search needs
-
-add-room-page : tie.Need-add-room-page
-add-room-page c = search needs
-
-room-page-requires : tie.Need-room-page-requires
-room-page-requires c κs = search needs
-
 enum-told : tie.Need-enum-told
-enum-told c = search needs
+enum-told c = search (needs, appends)
 
 append-compacted-requires : tie.Need-append-compacted-requires
-append-compacted-requires c κs = search needs
+append-compacted-requires c κs = search (needs, appends)
 
-enum-known-index : tie.Need-enum-known-index
-enum-known-index c = search needs
+enum-known-page : tie.Need-enum-known-page
+enum-known-page c = search (needs, appends)
 
 append-requires : tie.Need-append-requires
 append-requires c κs = search (needs, appends)
 
 same-length : tie.Need-same-length
-same-length c = search needs
+same-length c = search (needs, appends)
 
 returns : tie.Need-returns
 returns c = search (needs, appends)
 
 same-length-2 : tie.Need-same-length-2
-same-length-2 c = search needs
+same-length-2 c = search (needs, appends)
 
 returns-2 : tie.Need-returns-2
 returns-2 c = search (needs, appends)
@@ -41,12 +32,9 @@ pub write-spec : {M : Type 1} → statement M
 write-spec =
     tie.close
     (tie.spec
-    size-of-requires
-    add-room-page
-    room-page-requires
     enum-told
     append-compacted-requires
-    enum-known-index
+    enum-known-page
     append-requires
     same-length
     returns
