@@ -3,8 +3,9 @@
 // one may be live twice; a walk for each of these tells whether one is. Promises are the definitions
 // of `rules`, and those of `Noting`, which say what the map and what is kept beside it become.
 //
-// Every function here is proved. `mark` and `note` ask for a handle of 16 bits, the others for a right
-// geometry. `drop_in` and `drop_doubles` alone store; the others change no word of the flash.
+// Every function here is proved. Of the public ones `note` asks for a handle of 16 bits, the others
+// for a right geometry, and `confirmed` and `drop_in` besides for the windows that noting all live
+// handles gives. `drop_in` and `drop_doubles` alone store; the others change no word of the flash.
 ghost use mathlib.Core.Bool.{false, cond, not, _&&_};
 ghost use mathlib.Core.Path.{_≡_};
 ghost use Prim.Native.Nat.{_/_, _^_, _≤_, _<_};

@@ -4,7 +4,7 @@
 //
 // Every function here is proved. Each public one asks for a right geometry, but `up_to`, which asks
 // for a place inside the run, and `passes`, which asks for nothing; `after` asks too that its cursor
-// stands at an entry. `drop_in` and `drop_doubles` alone store; the others change no word.
+// stands at an entry. None stores; in `doubles` two do.
 ghost use mathlib.Core.Bool.{_&&_};
 ghost use mathlib.Core.Path.{_≡_};
 ghost use Prim.Native.Nat.{min, _+_, _≤_, _<_};
@@ -12,7 +12,7 @@ ghost use lib.Bits.{bitAnd};
 ghost use lib.Dec.{eqb};
 ghost use lib.ListN.{length, take};
 ghost use Rattle.rules.specs.Words.{isLive};
-ghost use Rattle.rules.specs.Areas.{entries, anyOf, liveOf, twice, find};
+ghost use Rattle.rules.specs.Areas.{entries, anyOf, liveOf, find};
 ghost use Rattle.rules.specs.Search.{next, badPlace};
 ghost use Rattle.rules.specs.Places.{Right};
 ghost use Rattle.entries.specs.Pages.{From, Reached};
@@ -21,7 +21,6 @@ ghost use Rattle.entries.specs.Ahead.{foundOf, onward, ahead, behind, En
 
 pub mod doubles; // doubles.rt: handles that are live twice
 
-use flash::Power;
 use rules::Area;
 
 // What is found of an entry: the place of its header in the run, and the number of its data words.

@@ -15,45 +15,42 @@ use Rattle.rules.specs.Words.{handleOf, header, seal}
 use Rattle.rules.specs.Walk.{entryLength, stop}
 use Rattle.rules.specs.Areas.{base, page, Entry, pageEntries, entries, liveOf, find, ready}
 use Rattle.rules.specs.Lists.{compact, append}
-use Rattle.rules.specs.Places.{Right, base-suc, base-in, page-in, right-passes}
+use Rattle.rules.specs.Places.{Right, base-in, right-passes}
 use Rattle.demands.specs.Compacting.{found-packed}
 use Rattle.pages.specs.Steps.{lengthAt, entriesAt, entryAt, data-words, entries-on, entries-end}
 use Rattle.entries.specs.declared.Found.{Found}
 use Rattle.entries.specs.Ahead.{foundOf, find-dead, page-onward}
-use Rattle.stores.specs.Making.{base-small, run-small, dataWords, bareFound, bare-words, found-bare}
+use Rattle.stores.specs.Making.{base-small, run-small, page-ends, dataWords, bareFound, bare-words, found-bare}
 
 -- ---- a search for the live entry of a handle in a page has come to a place, o being what it will find
-pub record Seeking (h : ℕ) (p : List ℕ) (o : Option Entry) (at : ℕ) : Type 0 where
+pub record Locating (h : ℕ) (p : List ℕ) (o : Option Entry) (at : ℕ) : Type 0 where
   pub same : find h (entriesAt p at) ≡ o
 
-pub seeking-start : {h : ℕ} {p : List ℕ} {at : ℕ} → Seeking h p (find h (entriesAt p at)) at
-seeking-start = record { same = refl }
+pub locating-start : {h : ℕ} {p : List ℕ} {at : ℕ} → Locating h p (find h (entriesAt p at)) at
+locating-start = record { same = refl }
 
-module _ {h : ℕ} {p : List ℕ} {o : Option Entry} {at n : ℕ} (s : Seeking h p o at) (e : n ≡ lengthAt p at) where
-  pub seeking-end : n ≡ 0 → Found.None ≡ foundOf o
-  seeking-end z = ap (λ (es : List Entry). foundOf (find h es)) (sym (entries-end p at e z)) ∙ ap foundOf (s .same)
+module _ {h : ℕ} {p : List ℕ} {o : Option Entry} {at n : ℕ} (s : Locating h p o at) (e : n ≡ lengthAt p at) where
+  pub locating-end : n ≡ 0 → Found.None ≡ foundOf o
+  locating-end z = ap (λ (es : List Entry). foundOf (find h es)) (sym (entries-end p at e z)) ∙ ap foundOf (s .same)
 
   module _ {k : ℕ} (z : n ≡ 0 → ⊥) (y : h ≡ 0 → ⊥) (q : k ≡ handleOf (getD p at 0)) where
     here : cond (liveOf h (entryAt p at n)) (some (entryAt p at n)) (find h (entriesAt p (at + n))) ≡ o
     here = ap (find h) (sym (entries-on p at n e z)) ∙ s .same
 
-    pub seeking-hit : k ≡ h → Found.At at (n - 1) ≡ foundOf o
+    pub locating-hit : k ≡ h → Found.At at (n - 1) ≡ foundOf o
     unfolding entryAt
-    seeking-hit r =
+    locating-hit r =
         let t : liveOf h (entryAt p at n) ≡ true = rw (← q, r, ne-eqb h 0 y, eq-eqb h h refl) in
         let l : n - 1 ≡ length (entryAt p at n .words) = omega (arith, data-words p at n e z) in
         ap (λ (m : ℕ). Found.At at m) l ∙ ap foundOf (rw t at here)
 
-    pub seeking-on : (k ≡ h → ⊥) → Seeking h p o (at + n)
+    pub locating-on : (k ≡ h → ⊥) → Locating h p o (at + n)
     unfolding entryAt
-    seeking-on r =
+    locating-on r =
         let t : liveOf h (entryAt p at n) ≡ false = rw (← q, ne-eqb h 0 y, ne-eqb k h r) in
         record { same = rw t at here }
 
 -- ---- of a page in the run
-pub page-ends : {b : ℕ} (a : Area) (f : List ℕ) (i : ℕ) → b ≡ base a i → Right a f → i < a .pages → b + a .words ≤ length f
-page-ends a f i e g l = omega (arith, page-in g i (omega arith), base-suc a i)
-
 module _ {run : List ℕ} (r : Found) (b : ℕ) (a : Area) (f : List ℕ) (i : ℕ) (w : run ≡ take (b + a .words) f) where
   pub found-in : (h : ℕ) → r ≡ foundOf (find h (entriesAt run (b + 2))) → b ≡ base a i → Right a f → i < a .pages → r ≡ foundOf (find h (pageEntries a f i))
   found-in h e q g l =
@@ -116,6 +113,6 @@ pub over-compacted : {p q r : Power} {f g k : List ℕ} {a : Area} {i : ℕ} {ol
     → Ran ((compact a i then append a h d i) f) p f r k
 over-compacted h d z x m b w y e l = then-onward h d w y e l x (rw (m, b) at z)
 
-pub ruleset seeks = (seeking-start, seeking-end, seeking-hit, seeking-on, find-dead)
+pub ruleset seeks = (locating-start, locating-end, locating-hit, locating-on, find-dead)
 
 pub ruleset moves = (page-ends, found-in, found-short, base-small, moved-at, moved-none, bare-words)

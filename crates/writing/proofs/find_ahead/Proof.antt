@@ -4,12 +4,12 @@ use Prim.Native.Nat.{_-_}
 use lib.ListN.{length}
 use Rattle.rules.specs.Areas.{find}
 use Rattle.pages.specs.Steps.{entriesAt}
-use Rattle.writing.specs.Moving.{Seeking, seeks}
+use Rattle.writing.specs.Moving.{Locating, seeks}
 use Rattle.writing.proofs.find_ahead.Statement.{statement}
 use Rattle.writing.proofs.find_ahead.Tie as tie
 
 abbrev Inv-loop : tie.InvT-loop
-Inv-loop run start handle at₀ at = Seeking handle run (find handle (entriesAt run start)) at
+Inv-loop run start handle at₀ at = Locating handle run (find handle (entriesAt run start)) at
 
 abbrev μ-loop : tie.MeasureT-loop
 μ-loop run start handle at₀ at = length run - at
