@@ -10,7 +10,7 @@ use frames::{Reply, Said, State};
 use libc::{STDIN_FILENO, STDOUT_FILENO};
 
 // How far the input has been taken: the state behind the lines so far, and where the next begins.
-#[derive(Drop)]
+#[derive(Clone, Copy)]
 struct Progress {
     state: State,
     at: usize,

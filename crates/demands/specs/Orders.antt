@@ -5,7 +5,7 @@ use Rattle.std.proofs.Common.{ap, ap₂, sym, ◌∙◌, subst, zero-le, arith, 
 use Rattle.std.proofs.Math.Path.{fun_ext}
 use mathlib.Core.List.{List, Permᴰ}
 use Rattle.std.proofs.Math.Option.{none}
-use Rattle.std.proofs.Math.Logic.{Ne·symm}
+use Rattle.std.proofs.Math.Logic.{Ne-symm}
 use Rattle.flash.specs.Stores.{Store, made}
 use Rattle.flash.specs.Laws.{first_all, first_nil}
 use Rattle.rules.specs.declared.Area.{Area}
@@ -45,7 +45,9 @@ perm_others h (Permᴰ.trans p q) o = perm_others h q (perm_others h p o)
 perm_differ : {rs qs : List Request} → Permᴰ rs qs → AllDiffer rs → AllDiffer qs
 perm_differ Permᴰ.nil o = tt
 perm_differ (Permᴰ.cons {a = a} e p) o = (rw e at (perm_others (handle_in a) p o.0), perm_differ p o.1)
-perm_differ (Permᴰ.swap e d) o = ((rw (e, d) at (Ne·symm o.0.0), rw d at o.1.0), (rw e at o.0.1, o.1.1))
+perm_differ (Permᴰ.swap {l = l} e d) o =
+    let away : Request → Type 0 = λ r. Others (handle_in r) l in
+    ((rw (e, d) at (Ne-symm o.0.0), subst away d o.1.0), (subst away e o.0.1, o.1.1))
 perm_differ (Permᴰ.trans p q) o = perm_differ q (perm_differ p o)
 
 perm_proper : {rs qs : List Request} → Permᴰ rs qs → ProperAll rs → ProperAll qs

@@ -23,7 +23,7 @@ use rules::Area;
 
 // What is kept beside the map: the highest handle noted, and of the windows of 1,024 handles those
 // in which a handle may have been noted twice, one bit for each.
-#[derive(Drop)]
+#[derive(Clone, Copy)]
 pub struct Seen {
     pub top: u32,
     pub windows: u64,

@@ -20,7 +20,7 @@ pub mod doubles; // doubles.rt: handles that are live twice
 use rules::Area;
 
 // What is found of an entry: the place of its header in the run, and the number of its data words.
-#[derive(Drop)]
+#[derive(Clone, Copy)]
 pub enum Found {
     At { place: usize, words: usize },
     None,
@@ -28,7 +28,7 @@ pub enum Found {
 
 // What a step of a search finds: the place of a match's header in the run, no match, or that it
 // cannot start where it should.
-#[derive(Drop)]
+#[derive(Clone, Copy)]
 pub enum Stepped {
     At(usize),
     None,
@@ -38,7 +38,7 @@ pub enum Stepped {
 // A place that a walk over the area's entries has come to: an entry's header in the run, the
 // entry's length, where its page ends, and how many pages are left behind that one. Behind the last
 // entry the length is 0.
-#[derive(Drop)]
+#[derive(Clone, Copy)]
 pub struct Cursor {
     pub place: usize,
     pub length: usize,

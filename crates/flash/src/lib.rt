@@ -10,7 +10,7 @@ pub const BLANK: u32 = 0xFFFF_FFFF;
 
 // The stores that power is left for, and whether a store has been asked for without. Once noted, a
 // cut stays noted.
-#[derive(Drop)]
+#[derive(Clone, Copy)]
 pub struct Power {
     pub left: u32,
     pub cut: bool,

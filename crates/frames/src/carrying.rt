@@ -14,7 +14,7 @@ use rules::{Answer, PageSize, Reading, Refusal, Yielded};
 const BAD_FRAME: u8 = 0x0A;
 
 // The state behind a line, and its reply.
-#[derive(Drop)]
+#[derive(Clone, Copy)]
 pub struct Taken {
     pub state: State,
     pub reply: Reply,

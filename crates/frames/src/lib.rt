@@ -26,7 +26,7 @@ pub const ENOUGH: u32 = 0xFFFF_FFFF;
 
 // An area of the console: so many pages of a size, in the first words of the flash. With no pages it
 // is none yet, and every request on it is refused for its geometry.
-#[derive(Drop)]
+#[derive(Clone, Copy)]
 pub struct Shape {
     pub pages: u8,
     pub size: PageSize,
@@ -34,7 +34,7 @@ pub struct Shape {
 
 // What the console keeps between lines beside its flash: the area that was formatted, and the power
 // for the next frame that is to spend it.
-#[derive(Drop)]
+#[derive(Clone, Copy)]
 pub struct State {
     pub shape: Shape,
     pub power: u32,
@@ -42,7 +42,7 @@ pub struct State {
 
 // What an answer says behind number and stores: nothing, so many words of the flash behind a place,
 // or the handles in an area that a filter lets through.
-#[derive(Drop)]
+#[derive(Clone, Copy)]
 pub enum Tail {
     Nothing,
     Words {
@@ -57,7 +57,7 @@ pub enum Tail {
 }
 
 // An answer: its number, the stores made, and what comes behind.
-#[derive(Drop)]
+#[derive(Clone, Copy)]
 pub struct Reply {
     pub number: u8,
     pub stores: u32,
@@ -66,7 +66,7 @@ pub struct Reply {
 
 // A frame of document 01, "The console". Of a write it has the number of words; the words themselves
 // are in a buffer beside it.
-#[derive(Drop)]
+#[derive(Clone, Copy)]
 pub enum Frame {
     Write { handle: u16, words: usize },
     Read(u16),
@@ -79,14 +79,14 @@ pub enum Frame {
 }
 
 // What of an answer is in the buffer: so many bytes, and whether there are more behind them.
-#[derive(Drop)]
+#[derive(Clone, Copy)]
 pub struct Said {
     pub count: usize,
     pub more: bool,
 }
 
 // What a line was answered: the state behind it, its reply, and what of the answer is in the buffer.
-#[derive(Drop)]
+#[derive(Clone, Copy)]
 pub struct Answered {
     pub state: State,
     pub reply: Reply,

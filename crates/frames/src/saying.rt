@@ -14,7 +14,7 @@ use rules::Area;
 
 // A pen over a lent buffer: so many bytes of the text are still to be passed over, so many bytes of
 // the buffer are written, and whether a byte has been left out at the buffer's end.
-#[derive(Drop)]
+#[derive(Clone, Copy)]
 struct Pen {
     skip: usize,
     used: usize,

@@ -15,14 +15,14 @@ pub const SPECIAL: u32 = 0x7F00;
 
 // An area: so many pages of so many words each, and behind them the recovery page. Any numbers may
 // stand here; GEOMETRY judges them.
-#[derive(Drop)]
+#[derive(Clone, Copy)]
 pub struct Area {
     pub pages: usize,
     pub words: usize,
 }
 
 // A page of 64, 256 or 1,024 words.
-#[derive(Drop)]
+#[derive(Clone, Copy)]
 pub enum PageSize {
     Small,
     Medium,
@@ -30,7 +30,7 @@ pub enum PageSize {
 }
 
 // The page size that has a number of words, if one has.
-#[derive(Drop)]
+#[derive(Clone, Copy)]
 pub enum FoundSize {
     Is(PageSize),
     None,
@@ -92,7 +92,7 @@ impl PageSize {
 }
 
 // What a page is, by its metadata and the end of its walk.
-#[derive(Drop)]
+#[derive(Clone, Copy)]
 pub enum Kind {
     Sealed,
     Torn,
@@ -100,7 +100,7 @@ pub enum Kind {
 }
 
 // What the recovery page is; a committed one names the index of a page.
-#[derive(Drop)]
+#[derive(Clone, Copy)]
 pub enum Recovery {
     Free,
     Unfinished,
@@ -109,7 +109,7 @@ pub enum Recovery {
 }
 
 // Why a request was refused, by the names of document 01's table.
-#[derive(Drop)]
+#[derive(Clone, Copy)]
 pub enum Refusal {
     Geometry,
     Damaged,
@@ -141,7 +141,7 @@ impl Refusal {
 
 // What a format, a recovery, a write or a delete answers: DONE or CUT with the stores made, or a
 // refusal, which made none.
-#[derive(Drop)]
+#[derive(Clone, Copy)]
 pub enum Answer {
     Done(u32),
     Cut(u32),
@@ -174,7 +174,7 @@ impl Answer {
 
 // What a read answers: the place of the entry's header in the run, one word before its data, and
 // the number of its data words; or a refusal.
-#[derive(Drop)]
+#[derive(Clone, Copy)]
 pub enum Reading {
     At { place: usize, words: usize },
     Refused(Refusal),
@@ -213,7 +213,7 @@ impl Reading {
 }
 
 // What a step of a search yields: the place of the next match's header in the run, or a refusal.
-#[derive(Drop)]
+#[derive(Clone, Copy)]
 pub enum Yielded {
     At(usize),
     Refused(Refusal),

@@ -8,7 +8,7 @@ ghost use Rattle.searching.specs.Object.{Opens, Steps};
 
 use rules::{Area, Yielded};
 
-#[derive(Drop)]
+#[derive(Clone, Copy)]
 pub struct Search<'a> {
     pub run: &'a [u32],
     pub area: Area,

@@ -364,7 +364,7 @@ Each P s f (l ∷ ls) = P (carried s f l).reply × Each P (carried s f l).state 
 
 pub each_fits : {s : State} {f : List ℕ} → Steady s f → (ls : List (List ℕ)) → Each Printable s f ls
 each_fits c [] = tt
-each_fits c (l ∷ ls) = (answer_fits c l, each_fits (carried_sound c l) ls)
+each_fits {s = s} {f = f} c (l ∷ ls) = (answer_fits c l, each_fits {s = (carried s f l).state} (carried_sound c l) ls)
 
 -- from the start, on any flash of 32-bit words
 pub session_fits : {f : List ℕ} → Words f → (input : List ℕ) → Each Printable start f (lines input)

@@ -12,7 +12,7 @@ use rules::{Area, Yielded};
 use searching::object::Search;
 
 // What three steps of a search yield, and the place that it has reached behind them.
-#[derive(Drop)]
+#[derive(Clone, Copy)]
 struct Steps {
     first: Yielded,
     second: Yielded,

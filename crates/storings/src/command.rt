@@ -4,7 +4,7 @@ use crate::{cuts, show, words};
 use rules::{Answer, Area};
 
 // A request but for its data: the first letter of its name, the area, the handle and the power.
-#[derive(Drop)]
+#[derive(Clone, Copy)]
 pub struct Request {
     pub name: u8,
     pub area: Area,

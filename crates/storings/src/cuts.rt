@@ -11,7 +11,7 @@ use rules::{Answer, Area};
 const FULL: u32 = 0xFFFF_FFFF;
 
 // What has been folded up of the recoveries so far, and whether the last was cut.
-#[derive(Drop)]
+#[derive(Clone, Copy)]
 struct Folded {
     sum: u64,
     cut: bool,

@@ -36,7 +36,7 @@ fn take(list: &mut [u32], count: usize, mark: u8, value: u32) -> usize {
 // numbers there are in the list. `mark` and `value` are of the token that is being read: the mark is
 // 0 before its first byte, then 'a' in a name, '0' in a number, and else the sign in front of the
 // number. What is lent stays from line to line: the area's numbers, and how many words.
-#[derive(Drop)]
+#[derive(Clone, Copy)]
 pub struct Line {
     pub name: u8,
     pub every: bool,

@@ -26,7 +26,7 @@ use walk::{Walk, walk_on, walk_page};
 
 // The page that a search over pages has found, if one passes, and the place in it where its walk
 // stops.
-#[derive(Drop)]
+#[derive(Clone, Copy)]
 pub enum FoundPage {
     At { index: usize, stop: usize },
     None,
@@ -34,7 +34,7 @@ pub enum FoundPage {
 
 // What is found of a ready area: the live entry of a handle, the live words, the lowest page whose
 // seal leaves the room for an entry, and the lowest whose compaction makes it.
-#[derive(Drop)]
+#[derive(Clone, Copy)]
 pub struct View {
     pub entry: Found,
     pub live: usize,
@@ -44,14 +44,14 @@ pub struct View {
 
 // What is found of an area whose R is free and whose pages are sealed: what is found of a ready one,
 // and the windows of handles in which one may be live twice.
-#[derive(Drop)]
+#[derive(Clone, Copy)]
 pub struct Sight {
     pub view: View,
     pub windows: u64,
 }
 
 // What a look gives: a refusal, that R is not free or a page not sealed, or what it found.
-#[derive(Drop)]
+#[derive(Clone, Copy)]
 pub enum Looked {
     Refused(Refusal),
     Unsealed,
@@ -59,7 +59,7 @@ pub enum Looked {
 }
 
 // What a survey gives: a refusal, or what it found.
-#[derive(Drop)]
+#[derive(Clone, Copy)]
 pub enum Surveyed {
     Refused(Refusal),
     Ready(View),
@@ -90,7 +90,7 @@ pub fn is_full(area: Area, live: usize, needed: usize) -> bool
 
 // What a survey asks: for the entry of a handle and the room for an entry of so many words, in pages
 // of a size beside a recovery page.
-#[derive(Drop)]
+#[derive(Clone, Copy)]
 struct Asked {
     handle: u32,
     needed: usize,
@@ -101,7 +101,7 @@ struct Asked {
 // What is known of the pages that were passed: whether each is sealed or torn or named by R, whether
 // each is sealed, the handles noted, the live entry of the handle, the live words, and the lowest page
 // whose compaction makes the room.
-#[derive(Drop)]
+#[derive(Clone, Copy)]
 struct Summary {
     sound: bool,
     sealed: bool,
@@ -113,7 +113,7 @@ struct Summary {
 
 // What a search for room gives: the lowest page whose seal leaves it, how many pages were passed, and
 // what is known of these.
-#[derive(Drop)]
+#[derive(Clone, Copy)]
 struct Sought {
     room: FoundPage,
     passed: usize,

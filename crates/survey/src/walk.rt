@@ -12,7 +12,7 @@ use entries::doubles::Seen;
 
 // What a walk over a page's entries has come to: the place, which is in the end where the walk stops,
 // the page's live words before it, and the entry found and the handles noted so far.
-#[derive(Drop)]
+#[derive(Clone, Copy)]
 pub struct Walk {
     pub stop: usize,
     pub live: usize,
