@@ -1,8 +1,10 @@
-// An area, read only: its geometry, its pages and R, and what each of them is. Promises are the
-// definitions of `rules`.
-//
-// Every function here is proved. Those that look into a page ask for a right geometry, which is what
-// `wrong_geometry` tests of any area; the others take anything.
+//! An area, read only: its geometry, its pages and R, and what each of them is. Promises are the
+//! definitions of `rules`.
+//!
+//! Every function here is proved. Those that look into a page ask for a right geometry, which is what
+//! `wrong_geometry` tests of any area; the others take anything.
+#![tactic(auto)]
+
 ghost use Rattle.std.specs.Prelude.{◌≡◌, ◌≤◌, ◌<◌, length};
 ghost use Rattle.rules.specs.Walk.{is_sealed, is_sound};
 ghost use Rattle.rules.specs.Areas.{page, kind, recovery, is_free, is_damage, names};

@@ -1,10 +1,12 @@
-// The area's entries, one behind the other through its pages: a walk over them, handles that are live
-// twice and the stores that mend it, and a step of a search by a filter. Promises are the definitions
-// of `rules`.
-//
-// Every function here is proved. Each public one asks for a right geometry, but `up_to`, which asks
-// for a place inside the run, and `passes`, which asks for nothing; `after` asks too that its cursor
-// stands at an entry. None stores; in `doubles` two do.
+//! The area's entries, one behind the other through its pages: a walk over them, handles that are live
+//! twice and the stores that mend it, and a step of a search by a filter. Promises are the definitions
+//! of `rules`.
+//!
+//! Every function here is proved. Each public one asks for a right geometry, but `up_to`, which asks
+//! for a place inside the run, and `passes`, which asks for nothing; `after` asks too that its cursor
+//! stands at an entry. None stores; in `doubles` two do.
+#![tactic(auto)]
+
 ghost use Rattle.std.specs.Prelude.{◌&&◌, ◌≡◌, min, ◌+◌, ◌≤◌, ◌<◌, eqb, length, take};
 ghost use Rattle.std.specs.Int.Bits.{bit_and};
 ghost use Rattle.rules.specs.Words.{is_live};

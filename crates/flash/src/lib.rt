@@ -1,7 +1,9 @@
-// Flash words under power: a word store, a page's erase, and a read.
-//
-// Every function here is proved, and none has a `requires`. `store` and `erase` alone change the
-// manager's flash, and without power they change nothing; `fill` is the loop of `erase`.
+//! Flash words under power: a word store, a page's erase, and a read.
+//!
+//! Every function here is proved, and none has a `requires`. `store` and `erase` alone change the
+//! manager's flash, and without power they change nothing; `fill` is the loop of `erase`.
+#![tactic(auto)]
+
 ghost use Rattle.std.specs.Prelude.{◌≡◌, [], ◌∷◌, get_or};
 ghost use Rattle.flash.specs.Stores.{put, wipe, wiped, spent, Ran};
 

@@ -1,8 +1,10 @@
-// One page, on a slice of its words: header fields, the walk, the page's kind, its live words, and
-// what a recovery page is. Promises are the definitions of `rules`, and `length_at`, which says the
-// walk's test of one place.
-//
-// Every function here is proved. `kind_at` alone has a `requires`: that it is told where the walk stops.
+//! One page, on a slice of its words: header fields, the walk, the page's kind, its live words, and
+//! what a recovery page is. Promises are the definitions of `rules`, and `length_at`, which says the
+//! walk's test of one place.
+//!
+//! Every function here is proved. `kind_at` alone has a `requires`: that it is told where the walk stops.
+#![tactic(auto)]
+
 ghost use Rattle.std.specs.Prelude.{◌≡◌, ◌-◌, ◌≤◌, ◌<◌, length, drop};
 ghost use Rattle.rules.specs.Words.{handle_of, length_of};
 ghost use Rattle.rules.specs.Walk.{items, stop, all_blank, meta_right, kind_of};

@@ -1,6 +1,8 @@
-// Reads and searches by the manager as compiled, on flash that is crafted word by word: each line
-// says what was asked and what was answered. What it must print was worked out from document 01, and
-// not from what the manager printed.
+//! Reads and searches by the manager as compiled, on flash that is crafted word by word: each line
+//! says what was asked and what was answered. What it must print was worked out from document 01, and
+//! not from what the manager printed.
+#![tactic(auto)]
+
 mod areas;
 mod damage;
 mod geometry;
@@ -13,7 +15,8 @@ mod show;
 mod unready;
 mod worked;
 
-fn main() {
-    areas::all();
-    geometry::all();
+fn main(rt: HostRuntime) {
+    let mut to = rt.stdout();
+    areas::all(&mut to);
+    geometry::all(&mut to);
 }

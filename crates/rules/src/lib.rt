@@ -1,7 +1,9 @@
-// The types of the manager's public interface: an area's description, the page sizes and the
-// answers. Document 01 as definitions stands in specs/, and speaks of these types.
-//
-// Every function here is proved, and none has a `requires`.
+//! The types of the manager's public interface: an area's description, the page sizes and the
+//! answers. Document 01 as definitions stands in specs/, and speaks of these types.
+//!
+//! Every function here is proved, and none has a `requires`.
+#![tactic(auto)]
+
 ghost use Rattle.std.specs.Prelude.{◌≡◌, ◌≤◌};
 ghost use Rattle.rules.specs.Words.{words_of, size_of, open_words, quota, last_seal};
 ghost use Rattle.rules.specs.Refusals.{refusal_number, answer_number, answer_stores, reading_number, reading_place, reading_words, yielded_number, yielded_place};

@@ -1,15 +1,17 @@
-// The search object as compiled: searches on a small area of two pages, each opened and stepped
-// three times. A line a search: the number and the place that each step yields, and the place
-// reached.
-//
-// Every function here is proved, and none has a `requires`. `three_steps` alone holds a search.
+//! The search object as compiled: searches on a small area of two pages, each opened and stepped
+//! three times. A line a search: the number and the place that each step yields, and the place
+//! reached.
+//!
+//! Every function here is proved, and none has a `requires`. `three_steps` alone holds a search.
+#![tactic(auto)]
+
 ghost use Rattle.std.specs.Prelude.{◌≡◌};
 ghost use Rattle.steps.specs.Three.{three_steps};
 
 use flash::Power;
-use libc::STDOUT_FILENO;
 use rules::{Area, Yielded};
 use searching::object::Search;
+use std::io::Write;
 
 // What three steps of a search yield, and the place that it has reached behind them.
 #[derive(Clone, Copy)]
@@ -70,50 +72,51 @@ fn fill_second(run: &mut [u32]) {
 }
 
 // Prints the number and the place that a step yielded.
-fn show_yielded(yielded: Yielded) {
-    io::print_hex(STDOUT_FILENO, yielded.number() as u64, 2);
-    io::write_all(STDOUT_FILENO, b" ");
-    io::print_hex(STDOUT_FILENO, yielded.place() as u64, 4);
-    io::write_all(STDOUT_FILENO, b"  ");
+fn show_yielded(to: &mut impl Write, yielded: Yielded) {
+    let _ = write!(to, "{:02x}", yielded.number() as u64);
+    let _ = to.write_all(b" ");
+    let _ = write!(to, "{:04x}", yielded.place() as u64);
+    let _ = to.write_all(b"  ");
 }
 
 // Prints a line: each step, and the place reached.
-fn show(steps: Steps) {
+fn show(to: &mut impl Write, steps: Steps) {
     let first = steps.first;
     let second = steps.second;
     let third = steps.third;
-    show_yielded(first);
-    show_yielded(second);
-    show_yielded(third);
-    io::print_hex(STDOUT_FILENO, steps.reached as u64, 4);
-    io::write_all(STDOUT_FILENO, b"\n");
+    show_yielded(to, first);
+    show_yielded(to, second);
+    show_yielded(to, third);
+    let _ = write!(to, "{:04x}", steps.reached as u64);
+    let _ = to.write_all(b"\n");
 }
 
 // Searches the run as an area of so many small pages, and prints the steps.
-fn show_search(run: &[u32], pages: usize, mask: u16, pattern: u16, place: usize) {
+fn show_search(to: &mut impl Write, run: &[u32], pages: usize, mask: u16, pattern: u16, place: usize) {
     let area = Area { pages, words: 64 };
-    show(three_steps(run, area, mask, pattern, place));
+    show(to, three_steps(run, area, mask, pattern, place));
 }
 
-fn main() {
+fn main(rt: HostRuntime) {
+    let mut to = rt.stdout();
     let mut words = [0xFFFF_FFFFu32; 192];
     let run: &mut [u32] = &mut words;
     fill_first(run);
     fill_second(run);
     // every live entry
-    show_search(run, 2, 0x0000, 0x0000, 0);
+    show_search(&mut to, run, 2, 0x0000, 0x0000, 0);
     // the handles 01xx: two, and no third
-    show_search(run, 2, 0xFF00, 0x0100, 0);
+    show_search(&mut to, run, 2, 0xFF00, 0x0100, 0);
     // one handle: asked again, a refused step is refused again
-    show_search(run, 2, 0xFFFF, 0x0012, 0);
+    show_search(&mut to, run, 2, 0xFFFF, 0x0012, 0);
     // no live entry has handle 0000
-    show_search(run, 2, 0xFFFF, 0x0000, 0);
+    show_search(&mut to, run, 2, 0xFFFF, 0x0000, 0);
     // behind an invalidated entry, and behind the last entry
-    show_search(run, 2, 0x0000, 0x0000, 4);
-    show_search(run, 2, 0x0000, 0x0000, 67);
+    show_search(&mut to, run, 2, 0x0000, 0x0000, 4);
+    show_search(&mut to, run, 2, 0x0000, 0x0000, 67);
     // behind a data word, behind the seal: no entry's place
-    show_search(run, 2, 0x0000, 0x0000, 3);
-    show_search(run, 2, 0x0000, 0x0000, 8);
+    show_search(&mut to, run, 2, 0x0000, 0x0000, 3);
+    show_search(&mut to, run, 2, 0x0000, 0x0000, 8);
     // the run has the words of two pages and R, not of three: refused before the place is looked at
-    show_search(run, 3, 0x0000, 0x0000, 3);
+    show_search(&mut to, run, 3, 0x0000, 0x0000, 3);
 }

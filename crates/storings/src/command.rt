@@ -2,6 +2,7 @@
 use crate::line::Line;
 use crate::{cuts, show, words};
 use rules::{Answer, Area};
+use std::io::Write;
 
 // A request but for its data: the first letter of its name, the area, the handle and the power.
 #[derive(Clone, Copy)]
@@ -54,7 +55,7 @@ fn rest(list: &[u32], few: usize, count: usize) -> &[u32] {
 }
 
 // Makes a command on the run, and writes what it answers.
-fn single(run: &mut [u32], line: Line, list: &[u32]) {
+fn single(to: &mut impl Write, run: &mut [u32], line: Line, list: &[u32]) {
     let name = line.name;
     let request = asked(line, list);
     let area = request.area;
@@ -69,32 +70,32 @@ fn single(run: &mut [u32], line: Line, list: &[u32]) {
             let tiles = rest(list, 3, line.count);
             words::tile(tiles, run, place, second as usize, line.number(list, 2));
         }
-        b's' => show::words(run, place, second as usize),
-        b'g' => show::reading(run, area, handle),
-        b'm' => show::map(run, area, handle, (second % 65536) as u16),
-        _ => show::answer(request.make(run, data)),
+        b's' => show::words(to, run, place, second as usize),
+        b'g' => show::reading(to, run, area, handle),
+        b'm' => show::map(to, run, area, handle, (second % 65536) as u16),
+        _ => show::answer(to, request.make(run, data)),
     }
 }
 
 // Makes a line's command on what is lent of the space, and ends what is written of the line. A mark
 // says that the space is too small.
-pub fn make(line: Line, list: &[u32], space: &mut [u32], cut: &mut [u32], again: &mut [u32]) {
+pub fn make(to: &mut impl Write, line: Line, list: &[u32], space: &mut [u32], cut: &mut [u32], again: &mut [u32]) {
     let length = line.length;
     if line.name == b'=' {
-        show::byte(b'\n');
+        show::byte(to, b'\n');
         return;
     }
     if space.len() < length {
-        show::small();
+        show::small(to);
         return;
     }
     if line.every {
         let data = rest(list, 1, line.count);
-        cuts::every(&space[0..length], asked(line, list), data, cut, again);
+        cuts::every(to, &space[0..length], asked(line, list), data, cut, again);
         return;
     }
-    show::byte(b':');
-    single(&mut space[0..length], line, list);
-    show::digest(words::digest(&space[0..length]));
-    show::byte(b'\n');
+    show::byte(to, b':');
+    single(to, &mut space[0..length], line, list);
+    show::digest(to, words::digest(&space[0..length]));
+    show::byte(to, b'\n');
 }

@@ -6,6 +6,7 @@
 use crate::command::Request;
 use crate::{show, words};
 use rules::{Answer, Area};
+use std::io::Write;
 
 // Power for any list of stores.
 const FULL: u32 = 0xFFFF_FFFF;
@@ -50,19 +51,20 @@ fn recoveries(run: &[u32], area: Area, again: &mut [u32]) -> u64 {
 }
 
 // Writes what the recoveries of the run come to, and leaves it recovered in the copy.
-fn recovered(run: &[u32], area: Area, again: &mut [u32]) {
+fn recovered(to: &mut impl Write, run: &[u32], area: Area, again: &mut [u32]) {
     let sum = recoveries(run, area, again);
     words::copy(run, again, 0);
-    show::answer(manager::recover(again, area, FULL));
-    show::digest(words::digest(again));
-    show::digest(sum);
-    show::byte(b';');
-    show::map(again, area, 0, 0);
+    show::answer(to, manager::recover(again, area, FULL));
+    show::digest(to, words::digest(again));
+    show::digest(to, sum);
+    show::byte(to, b';');
+    show::map(to, again, area, 0, 0);
 }
 
 // Makes a request on a copy of the run with so much power, recovers, and makes the request again with
 // power for all of it. Answers whether the first was cut.
 fn once(
+    to: &mut impl Write,
     run: &[u32],
     asked: Request,
     data: &[u32],
@@ -75,36 +77,36 @@ fn once(
     request.power = power;
     words::copy(run, cut, 0);
     let answer = request.make(cut, data);
-    show::answer(answer);
-    show::digest(words::digest(cut));
-    show::byte(b';');
-    recovered(cut, area, again);
-    show::byte(b';');
+    show::answer(to, answer);
+    show::digest(to, words::digest(cut));
+    show::byte(to, b';');
+    recovered(to, cut, area, again);
+    show::byte(to, b';');
     request.power = FULL;
-    show::answer(request.make(again, data));
-    show::digest(words::digest(again));
-    show::byte(b'\n');
+    show::answer(to, request.make(again, data));
+    show::digest(to, words::digest(again));
+    show::byte(to, b'\n');
     answer.number() == 8
 }
 
 // Makes a request with power for 0 stores, for 1, and so on to the first that is not cut.
-fn powers(run: &[u32], asked: Request, data: &[u32], cut: &mut [u32], again: &mut [u32]) {
+fn powers(to: &mut impl Write, run: &[u32], asked: Request, data: &[u32], cut: &mut [u32], again: &mut [u32]) {
     for power in 0..4096u32 {
-        if !once(run, asked, data, power, cut, again) {
+        if !once(to, run, asked, data, power, cut, again) {
             break;
         }
     }
 }
 
 // The same in two spaces for copies of the run. A mark says that they are too small.
-pub fn every(run: &[u32], asked: Request, data: &[u32], cut: &mut [u32], again: &mut [u32]) {
+pub fn every(to: &mut impl Write, run: &[u32], asked: Request, data: &[u32], cut: &mut [u32], again: &mut [u32]) {
     let length = run.len();
     if length <= cut.len() {
         if length <= again.len() {
-            show::byte(b'\n');
-            powers(run, asked, data, &mut cut[0..length], &mut again[0..length]);
+            show::byte(to, b'\n');
+            powers(to, run, asked, data, &mut cut[0..length], &mut again[0..length]);
             return;
         }
     }
-    show::small();
+    show::small(to);
 }

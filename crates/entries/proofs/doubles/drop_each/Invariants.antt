@@ -1,0 +1,11 @@
+-- `drop_each` asks of each entry whether its handle is live behind it. Assumes nothing.
+use Rattle.std.proofs.Common.{length}
+use Rattle.entries.specs.Ahead.{ahead}
+use Rattle.entries.specs.Doubles.{Dropping}
+use Rattle.entries.proofs.doubles.drop_each.Given as goal
+
+abbrev pub invariant-loop-cursor : goal.invariant-loop-cursor
+invariant-loop-cursor l = Dropping l.alone l.only l.area l.initial.p l.initial.flash l.cursor l.p l.flash
+
+abbrev pub decreases-loop-cursor : goal.decreases-loop-cursor
+decreases-loop-cursor l = length (ahead l.area l.flash l.cursor)
