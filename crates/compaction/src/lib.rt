@@ -1,8 +1,10 @@
-// The compaction of a page: its live entries to R, word by word from where they lie, and back.
-// Promises are the lists of `rules`, run under power.
-//
-// Every function here is proved. Each asks for a right geometry; a compaction asks for a ready area,
-// in which R is blank and takes the words as they are.
+//! The compaction of a page: its live entries to R, word by word from where they lie, and back.
+//! Promises are the lists of `rules`, run under power.
+//!
+//! Every function here is proved. Each asks for a right geometry; a compaction asks for a ready area,
+//! in which R is blank and takes the words as they are.
+#![tactic(auto)]
+
 ghost use Rattle.std.specs.Prelude.{true, [], ◌∷◌, ◌++◌, ◌≡◌, ◌+◌, ◌-◌, ◌≤◌, ◌<◌, length, get_or, take, drop};
 ghost use Rattle.flash.specs.Stores.{puts, Ran};
 ghost use Rattle.rules.specs.Words.{handle_of, seal};

@@ -45,7 +45,13 @@ fn tell<W: Write>(to: &mut W, state: State, flash: &mut [u32], line: &[u8], out:
 }
 
 // Carries out the whole lines of a text from a place on.
-fn tell_lines<W: Write>(to: &mut W, taken: Progress, flash: &mut [u32], text: &[u8], out: &mut [u8]) -> Progress
+fn tell_lines<W: Write>(
+    to: &mut W,
+    taken: Progress,
+    flash: &mut [u32],
+    text: &[u8],
+    out: &mut [u8],
+) -> Progress
     requires { (length flash.old ≤ 16384) × (0 < length out.old) × (taken.at ≤ length text.now) }
     ensures { result.at ≤ length text.now }
 {
@@ -77,7 +83,14 @@ fn tell_first<W: Write>(
 }
 
 // Carries out what is left of a text's first bytes, if there is anything, as a line.
-fn tell_last<W: Write>(to: &mut W, taken: Progress, flash: &mut [u32], text: &[u8], filled: usize, out: &mut [u8])
+fn tell_last<W: Write>(
+    to: &mut W,
+    taken: Progress,
+    flash: &mut [u32],
+    text: &[u8],
+    filled: usize,
+    out: &mut [u8],
+)
     requires { (length flash.old ≤ 16384) × (0 < length out.old) × (filled ≤ length text.now) }
 {
     let at = taken.at;
@@ -106,7 +119,13 @@ fn read_into<R: Read>(from: &mut R, text: &mut [u8]) -> usize
 }
 
 // Reads and answers, line by line, until the input ends or the buffer for it is full.
-fn run<R: Read, W: Write>(from: &mut R, to: &mut W, text: &mut [u8], flash: &mut [u32], out: &mut [u8])
+fn run<R: Read, W: Write>(
+    from: &mut R,
+    to: &mut W,
+    text: &mut [u8],
+    flash: &mut [u32],
+    out: &mut [u8],
+)
     requires { (length flash.old ≤ 16384) × (0 < length out.old) }
 {
     let mut taken = Progress {

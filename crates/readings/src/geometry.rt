@@ -1,8 +1,8 @@
 // GEOMETRY: numbers of pages, sizes of pages and lengths of the run that do not fit.
 use crate::{image, show};
 use rules::Area;
-use std::num::{wrapping_add_usize, wrapping_sub_usize};
 use std::io::Write;
+use std::num::{wrapping_add_usize, wrapping_sub_usize};
 
 // The largest number of pages or words that can be asked for.
 const MOST: usize = 0xFFFF_FFFF_FFFF_FFFF;

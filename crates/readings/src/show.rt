@@ -135,7 +135,14 @@ pub fn step(to: &mut impl Write, run: &[u32], area: Area, mask: u16, pattern: u1
 
 // Makes a step of a search, behind a place. Writes what it answers and, where it was not refused, the
 // handle at the new place, and answers that place, 0 if refused.
-fn next(to: &mut impl Write, run: &[u32], area: Area, mask: u16, pattern: u16, place: usize) -> usize {
+fn next(
+    to: &mut impl Write,
+    run: &[u32],
+    area: Area,
+    mask: u16,
+    pattern: u16,
+    place: usize,
+) -> usize {
     let answer = searching::search(run, area, mask, pattern, place);
     let found = answer.place();
     yielded(to, answer);

@@ -1,7 +1,9 @@
-// Search by a filter, over the entries of an area of flash. It keeps nothing between its steps.
-//
-// Every function here is proved, and none has a `requires`: any area, run, filter and place is
-// answered. A search changes no word.
+//! Search by a filter, over the entries of an area of flash. It keeps nothing between its steps.
+//!
+//! Every function here is proved, and none has a `requires`: any area, run, filter and place is
+//! answered. A search changes no word.
+#![tactic(auto)]
+
 ghost use Rattle.searching.specs.Searching.{Searches};
 
 use entries::Stepped;

@@ -92,7 +92,14 @@ fn show(to: &mut impl Write, steps: Steps) {
 }
 
 // Searches the run as an area of so many small pages, and prints the steps.
-fn show_search(to: &mut impl Write, run: &[u32], pages: usize, mask: u16, pattern: u16, place: usize) {
+fn show_search(
+    to: &mut impl Write,
+    run: &[u32],
+    pages: usize,
+    mask: u16,
+    pattern: u16,
+    place: usize,
+) {
     let area = Area { pages, words: 64 };
     show(to, three_steps(run, area, mask, pattern, place));
 }

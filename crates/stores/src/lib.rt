@@ -1,9 +1,11 @@
-// The stores that the lists of document 01 are made of: words upward, a copy inside the flash, a
-// page's metadata, a header to its bare length; and the list of a format. Promises are the lists of
-// `rules`, run under power.
-//
-// Every function here is proved. Each asks that its places can be counted; those of a format and of
-// metadata ask for a right geometry.
+//! The stores that the lists of document 01 are made of: words upward, a copy inside the flash, a
+//! page's metadata, a header to its bare length; and the list of a format. Promises are the lists of
+//! `rules`, run under power.
+//!
+//! Every function here is proved. Each asks that its places can be counted; those of a format and of
+//! metadata ask for a right geometry.
+#![tactic(auto)]
+
 ghost use Rattle.std.specs.Prelude.{[], ◌∷◌, ◌⊎◌, ◌≡◌, ◌+◌, ◌≤◌, ◌<◌, length, take, drop};
 ghost use Rattle.flash.specs.Stores.{put, puts, each, Ran};
 ghost use Rattle.rules.specs.Words.{meta1};

@@ -79,7 +79,14 @@ fn single(to: &mut impl Write, run: &mut [u32], line: Line, list: &[u32]) {
 
 // Makes a line's command on what is lent of the space, and ends what is written of the line. A mark
 // says that the space is too small.
-pub fn make(to: &mut impl Write, line: Line, list: &[u32], space: &mut [u32], cut: &mut [u32], again: &mut [u32]) {
+pub fn make(
+    to: &mut impl Write,
+    line: Line,
+    list: &[u32],
+    space: &mut [u32],
+    cut: &mut [u32],
+    again: &mut [u32],
+) {
     let length = line.length;
     if line.name == b'=' {
         show::byte(to, b'\n');

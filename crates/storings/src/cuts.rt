@@ -90,7 +90,14 @@ fn once(
 }
 
 // Makes a request with power for 0 stores, for 1, and so on to the first that is not cut.
-fn powers(to: &mut impl Write, run: &[u32], asked: Request, data: &[u32], cut: &mut [u32], again: &mut [u32]) {
+fn powers(
+    to: &mut impl Write,
+    run: &[u32],
+    asked: Request,
+    data: &[u32],
+    cut: &mut [u32],
+    again: &mut [u32],
+) {
     for power in 0..4096u32 {
         if !once(to, run, asked, data, power, cut, again) {
             break;
@@ -99,12 +106,26 @@ fn powers(to: &mut impl Write, run: &[u32], asked: Request, data: &[u32], cut: &
 }
 
 // The same in two spaces for copies of the run. A mark says that they are too small.
-pub fn every(to: &mut impl Write, run: &[u32], asked: Request, data: &[u32], cut: &mut [u32], again: &mut [u32]) {
+pub fn every(
+    to: &mut impl Write,
+    run: &[u32],
+    asked: Request,
+    data: &[u32],
+    cut: &mut [u32],
+    again: &mut [u32],
+) {
     let length = run.len();
     if length <= cut.len() {
         if length <= again.len() {
             show::byte(to, b'\n');
-            powers(to, run, asked, data, &mut cut[0..length], &mut again[0..length]);
+            powers(
+                to,
+                run,
+                asked,
+                data,
+                &mut cut[0..length],
+                &mut again[0..length],
+            );
             return;
         }
     }

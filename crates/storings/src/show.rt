@@ -1,7 +1,7 @@
 // Printing what was answered.
 use rules::{Answer, Area};
-use std::num::wrapping_add_usize;
 use std::io::Write;
+use std::num::wrapping_add_usize;
 
 // Writes one byte.
 pub fn byte(to: &mut impl Write, x: u8) {
@@ -47,12 +47,24 @@ pub fn reading(to: &mut impl Write, run: &[u32], area: Area, handle: u16) {
     hex(to, answer.number() as u64, 2);
     hex(to, answer.place() as u64, 1);
     hex(to, answer.words() as u64, 1);
-    words(to, run, wrapping_add_usize(answer.place(), 1), answer.words());
+    words(
+        to,
+        run,
+        wrapping_add_usize(answer.place(), 1),
+        answer.words(),
+    );
 }
 
 // Makes a step of a search. Writes the handle that it yields and the words that a read then finds, or
 // the number of a refusal, and answers the place, 0 if refused.
-fn next(to: &mut impl Write, run: &[u32], area: Area, mask: u16, pattern: u16, place: usize) -> usize {
+fn next(
+    to: &mut impl Write,
+    run: &[u32],
+    area: Area,
+    mask: u16,
+    pattern: u16,
+    place: usize,
+) -> usize {
     let yielded = searching::search(run, area, mask, pattern, place);
     let found = yielded.place();
     if found == 0 {
@@ -62,7 +74,12 @@ fn next(to: &mut impl Write, run: &[u32], area: Area, mask: u16, pattern: u16, p
     let handle = (flash::word(run, found) / 65536) as u16;
     let answer = manager::read(run, area, handle);
     hex(to, handle as u64, 4);
-    words(to, run, wrapping_add_usize(answer.place(), 1), answer.words());
+    words(
+        to,
+        run,
+        wrapping_add_usize(answer.place(), 1),
+        answer.words(),
+    );
     byte(to, b',');
     found
 }

@@ -1,10 +1,12 @@
-// What a request has to know of an area before it stores or answers: whether the area is ready, the
-// entry of a handle, the live words, and the pages that have room for an entry or make it. Promises
-// are the definitions of `rules`.
-//
-// Every function here is proved. `look` and `survey` take any area, run and handle, and ask that an
-// entry can have the length that they are given; `is_full` takes any of them, and asks for as many
-// pages and such ones as an area can have.
+//! What a request has to know of an area before it stores or answers: whether the area is ready, the
+//! entry of a handle, the live words, and the pages that have room for an entry or make it. Promises
+//! are the definitions of `rules`.
+//!
+//! Every function here is proved. `look` and `survey` take any area, run and handle, and ask that an
+//! entry can have the length that they are given; `is_full` takes any of them, and asks for as many
+//! pages and such ones as an area can have.
+#![tactic(auto)]
+
 ghost use Rattle.std.specs.Prelude.{true, ◌≡◌, ◌≤◌, ◌<◌, ◌+◌, ltb};
 ghost use Rattle.rules.specs.Words.{words_of, size_of, longest};
 ghost use Rattle.rules.specs.Walk.{stop, kind_of};

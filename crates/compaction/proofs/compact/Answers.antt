@@ -1,0 +1,16 @@
+-- `compact` counts, fills R, and restores the page. Assumes nothing.
+use Rattle.std.proofs.Common.{rules}
+use Rattle.flash.specs.Laws.{words_fit}
+use Rattle.compaction.specs.Copying.{compactions}
+use Rattle.rules.specs.Places.{right_ran}
+use Rattle.compaction.proofs.compact.Goals as goal
+
+pub restore-requires : goal.restore-requires
+restore-requires c =
+    let w = words_fit c.args.flash.now c.slice_known-1.given in
+    (search (rules, right_ran), search rules, search (rules, compactions))
+
+pub returns : goal.returns
+returns c =
+    let w = words_fit c.args.flash.now c.slice_known-1.given in
+    search (rules, compactions)

@@ -1,0 +1,7 @@
+-- `settle` goes to the next page where one has no entry left. Assumes nothing.
+use Rattle.std.proofs.Common.{rules}
+use Rattle.entries.specs.Ahead.{cursors}
+use Rattle.entries.proofs.settle.Goals as goal
+
+pub loop-area-preserved : goal.loop-area-preserved
+loop-area-preserved c = search (rules, cursors)

@@ -1,0 +1,13 @@
+-- `format_pages` goes from page to page. Assumes nothing.
+use Rattle.std.proofs.Common.{rules}
+use Rattle.stores.specs.Making.{makings}
+use Rattle.stores.proofs.format_pages.Goals as goal
+
+pub loop-index-init : goal.loop-index-init
+loop-index-init c = search (rules, makings)
+
+pub loop-index-preserved : goal.loop-index-preserved
+loop-index-preserved c = search (rules, makings)
+
+pub returns : goal.returns
+returns c = search (rules, makings)
