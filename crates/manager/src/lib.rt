@@ -1,8 +1,10 @@
-// The manager: what callers ask of an area of flash. It keeps nothing between requests.
-//
-// Every function here is proved, and no public one has a `requires`: any area, run, handle, data and
-// power is answered. A request that reads changes no word. One that stores is given power for so many
-// stores, and answers how many were made.
+//! The manager: what callers ask of an area of flash. It keeps nothing between requests.
+//!
+//! Every function here is proved, and no public one has a `requires`: any area, run, handle, data and
+//! power is answered. A request that reads changes no word. One that stores is given power for so many
+//! stores, and answers how many were made.
+#![tactic(auto)]
+
 ghost use Rattle.std.specs.Prelude.{true, ◌≡◌, suc, ◌+◌, min, ◌≤◌, ◌<◌, length, take, drop};
 ghost use Rattle.rules.specs.Words.{longest};
 ghost use Rattle.rules.specs.Walk.{entry_length};

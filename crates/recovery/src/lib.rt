@@ -1,7 +1,9 @@
-// Recovery of an area, step by step, each reading the flash as the step before left it: R finished,
-// torn pages mended, doubles dropped. Promises are the lists of `rules`, run under power.
-//
-// Every function here is proved. Each public one asks for a right geometry.
+//! Recovery of an area, step by step, each reading the flash as the step before left it: R finished,
+//! torn pages mended, doubles dropped. Promises are the lists of `rules`, run under power.
+//!
+//! Every function here is proved. Each public one asks for a right geometry.
+#![tactic(auto)]
+
 ghost use Rattle.std.specs.Prelude.{◌≡◌, ◌≤◌, ◌<◌, length};
 ghost use Rattle.flash.specs.Stores.{each, Ran};
 ghost use Rattle.rules.specs.declared.Kind.TheVariants.{Torn};

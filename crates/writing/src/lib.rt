@@ -1,10 +1,12 @@
-// The stores of a write: an entry behind the others of a page that has the room, or of one that a
-// compaction makes the room in; last, the handle's old entry to its bare length. Promises are the
-// lists of `rules`, run under power.
-//
-// Every function here is proved. Those that make an entry ask for a handle of 16 bits and for data
-// that an entry can have, those that look for one in a page for a right geometry; `write` asks besides
-// for a ready area, and for what a survey found of it.
+//! The stores of a write: an entry behind the others of a page that has the room, or of one that a
+//! compaction makes the room in; last, the handle's old entry to its bare length. Promises are the
+//! lists of `rules`, run under power.
+//!
+//! Every function here is proved. Those that make an entry ask for a handle of 16 bits and for data
+//! that an entry can have, those that look for one in a page for a right geometry; `write` asks besides
+//! for a ready area, and for what a survey found of it.
+#![tactic(auto)]
+
 ghost use Rattle.std.specs.Prelude.{true, [], ◌∷◌, ◌++◌, ◌≡◌, ◌≤◌, ◌<◌, length};
 ghost use Rattle.std.proofs.Math.Option.{none};
 ghost use Rattle.flash.specs.Stores.{puts, ◌then◌, Ran};

@@ -1,0 +1,10 @@
+-- `mend_torn` reads all places first, then makes the last entry bare and seals. Assumes nothing.
+use Rattle.std.proofs.Common.{rules}
+use Rattle.recovery.specs.Mending.{mends}
+use Rattle.recovery.proofs.mend_torn.Goals as goal
+
+pub up_to-requires : goal.up_to-requires
+up_to-requires c = search (rules, mends)
+
+pub returns : goal.returns
+returns c = search (rules, mends)

@@ -1,0 +1,13 @@
+-- `write` takes the page with room, or makes it. Assumes nothing.
+use Rattle.std.proofs.Common.{rules}
+use Rattle.writing.specs.Appending.{appends}
+use Rattle.writing.proofs.write.Goals as goal
+
+pub append-requires : goal.append-requires
+append-requires c = search (rules, appends)
+
+pub returns-in-None : goal.returns-in-None
+returns-in-None c = search (rules, appends)
+
+pub returns-in-At : goal.returns-in-At
+returns-in-At c = search (rules, appends)
