@@ -1,10 +1,12 @@
-// The manager for C and whatever calls as C does: its requests under plain names, over slices and
-// numbers alone. Each gives document 01's number of its answer, and puts the numbers that belong to
-// it where it is told.
-//
-// Every function here is proved, and none has a `requires`. In C a slice is a pointer and a number
-// of elements, and nothing there sees to it that so many can be read and written, or that a slice
-// and the numbers behind the other pointers lie apart: that is the caller's part.
+//! The manager for C and whatever calls as C does: its requests under plain names, over slices and
+//! numbers alone. Each gives document 01's number of its answer, and puts the numbers that belong to
+//! it where it is told.
+//!
+//! Every function here is proved, and none has a `requires`. In C a slice is a pointer and a number
+//! of elements, and nothing there sees to it that so many can be read and written, or that a slice
+//! and the numbers behind the other pointers lie apart: that is the caller's part.
+#![tactic(auto)]
+
 ghost use Rattle.rules.specs.Lists.{format, recover, write, delete};
 ghost use Rattle.exports.specs.Numbers.{area_of, Gives, Locates, Yields};
 

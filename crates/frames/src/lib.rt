@@ -1,13 +1,15 @@
-// The console's lines: a frame from a line's bytes, what it does to the console's state and flash,
-// and its answer as bytes, a line at a time over lent buffers. Nothing here knows where lines come
-// from or answers go to.
-//
-// Every function here is proved, and no public one has a `requires`: any state, flash, line and
-// buffer is answered.
-//
-// An answer may be longer than the buffer that is lent for it. `answer` carries a line out and puts
-// the first bytes of its answer into the buffer; where it says that there are more, `say` gives them
-// piece by piece from the reply, as long as no other line is carried out in between.
+//! The console's lines: a frame from a line's bytes, what it does to the console's state and flash,
+//! and its answer as bytes, a line at a time over lent buffers. Nothing here knows where lines come
+//! from or answers go to.
+//!
+//! Every function here is proved, and no public one has a `requires`: any state, flash, line and
+//! buffer is answered.
+//!
+//! An answer may be longer than the buffer that is lent for it. `answer` carries a line out and puts
+//! the first bytes of its answer into the buffer; where it says that there are more, `say` gives them
+//! piece by piece from the reply, as long as no other line is carried out in between.
+#![tactic(auto)]
+
 mod carrying;
 mod line;
 mod requests;
