@@ -25,7 +25,7 @@
 //! has no space for so many words, nothing is made, and it prints a `!`.
 #![tactic(auto)]
 
-ghost use Rattle.std.specs.Prelude.{◌≤◌, ◌×◌, length};
+ghost use Rattle.std.specs.Prelude.{◌≤◌, length};
 
 mod command;
 mod cuts;
