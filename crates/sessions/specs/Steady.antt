@@ -2,7 +2,7 @@
 -- DAMAGED or BADPLACE, number and stores of every answer fit their digits, and nothing is CUT for which no power was named. Assumes nothing.
 use Rattle.std.proofs.Math.Path.{◌≡◌, refl}
 use Rattle.std.proofs.Common.{ap, sym, ◌∙◌, subst, true≢false, inl, inr, mul-le-mul_right, take_at, leb-true, leb-false, le-leb}
-use Rattle.std.specs.Prelude.{List, [], ◌∷◌, Bool, true, false, cond, ◌&&◌, ◌≢◌, ◌⊎◌, ℕ, suc, zero, ◌+◌, ◌-◌, ◌*◌, ◌≤◌, length, get_or, drop, leb, eqb}
+use Rattle.std.specs.Prelude.{List, [], ◌∷◌, Bool, true, false, cond, ◌&&◌, ◌≢◌, ◌⊎◌, ℕ, suc, zero, ◌+◌, ◌*◌, ◌≤◌, length, get_or, drop, leb, eqb}
 use Rattle.std.proofs.lemmas.Bool.{false≢true, eqb-false}
 use native.Mathlib.Omega.{arith}
 use Rattle.flash.specs.Stores.{blank, Words, none, more, Store, made}
@@ -12,7 +12,7 @@ use Rattle.rules.specs.declared.Refusal.{Refusal}
 use Rattle.rules.specs.declared.Refusal.TheVariants.{Geometry, Damaged, Unready, BadHandle, BadLength, NotFound, NoRoom, BadPlace}
 use Rattle.rules.specs.declared.Reading.{Reading}
 use Rattle.rules.specs.declared.Yielded.{Yielded}
-use Rattle.rules.specs.Areas.{damaged, ready}
+use Rattle.rules.specs.Areas.{damaged}
 use Rattle.rules.specs.Refusals.{refusal_number, answer_number, answer_stores, wrong_geometry, checked, format_checks, recover_checks, write_checks, find_checks, Plan, refuse, list, outcome_of}
 use Rattle.rules.specs.Lists.{format_list, delete_list, write_list, recover_list, Request, format, recover, write, delete, plan_of}
 use Rattle.rules.specs.Search.{read_of, search_checks, search_of, bad_place}
