@@ -1,5 +1,5 @@
 #!/usr/bin/env python3
-"""Brings a repository's own definitions and lemmas to the spelling of today's Rattle; run once, after the kit's port.py. The names that it gave: respell.tsv.
+"""Brings a repository's own definitions and lemmas to the spelling of today's Rattle; run once, after the kit's port.py. The names that both gave, with the crates that declare them: respell.tsv.
 
 Renames the repository's OWN names from the older spelling (ran-one, madeFirst) to today's (ran_one, made_first; types UpperCamel).
 
