@@ -1,3 +1,2 @@
 pub mod Searching
 pub mod Object
-pub mod ObjectLaws

@@ -6,11 +6,7 @@ use Rattle.rules.specs.Places.{right_ran}
 use Rattle.compaction.proofs.compact.Goals as goal
 
 pub restore-requires : goal.restore-requires
-restore-requires c =
-    let w = words_fit c.args.flash.now c.slice_known-1.given in
-    (search (rules, right_ran), search rules, search (rules, compactions))
+restore-requires c = (search (rules, right_ran), search rules, search (rules, compactions, words_fit))
 
 pub returns : goal.returns
-returns c =
-    let w = words_fit c.args.flash.now c.slice_known-1.given in
-    search (rules, compactions)
+returns c = search (rules, compactions, words_fit)

@@ -8,6 +8,4 @@ pub moved-old-requires : goal.moved-old-requires
 moved-old-requires c = search (rules, appends)
 
 pub returns : goal.returns
-returns c =
-    let w = words_fit c.args.flash.now c.slice_known-1.given in
-    search (rules, appends)
+returns c = search (rules, appends, words_fit)
