@@ -1,12 +1,11 @@
 -- The geometry and the words of a page, from what a function has found of each, and what passed checks say of an area: laws. Assumes nothing.
-use Rattle.std.specs.Prelude.{◌≡◌, List, Bool, true, false, not, ℕ, suc, ◌+◌, ◌-◌, ◌*◌, ◌≤◌, ◌<◌, length, take, drop, eqb}
+use Rattle.std.specs.Prelude.{◌≡◌, List, Bool, true, false, not, ℕ, suc, ◌+◌, ◌-◌, ◌*◌, ◌≤◌, ◌<◌, length, take, drop, eqb, Option, Some, None}
 use Rattle.std.proofs.Math.Path.{sym}
 use Rattle.std.proofs.Common.{◌∙◌, arith, mul-le-mul_right, suc-mul, Fits}
 use borrow.Author.Tests.{le-leb, lt-leb, not-false}
 use Rattle.std.specs.Int.{w64}
 use Rattle.rules.specs.declared.Area.{Area}
 use Rattle.rules.specs.declared.PageSize.{PageSize}
-use Rattle.rules.specs.declared.FoundSize.{FoundSize}
 use Rattle.rules.specs.declared.Refusal.{Refusal}
 use Rattle.rules.specs.Words.{words_of, size_of}
 use Rattle.rules.specs.Areas.{base, page, ready}
@@ -24,15 +23,15 @@ module _ (a : Area) (f : List ℕ) (l : 1 ≤ a.pages) where
   unfolding wrong_geometry
   many_pages h = rw (le-leb 1 a.pages l, lt-leb a.pages 255 h)
 
-  module _ {s : FoundSize} (h : a.pages ≤ 255) (e : s ≡ size_of a.words) where
-    pub no_size : s ≡ FoundSize.None → true ≡ wrong_geometry a f
+  module _ {s : Option PageSize} (h : a.pages ≤ 255) (e : s ≡ size_of a.words) where
+    pub no_size : s ≡ None → true ≡ wrong_geometry a f
     unfolding wrong_geometry
-    no_size q = let n : size_of a.words ≡ FoundSize.None = sym e ∙ q in rw (le-leb 1 a.pages l, le-leb a.pages 255 h, n)
+    no_size q = let n : size_of a.words ≡ None = sym e ∙ q in rw (le-leb 1 a.pages l, le-leb a.pages 255 h, n)
 
-    pub by_length : {z : PageSize} {m : ℕ} → s ≡ FoundSize.Is z → m ≡ words_of z → not (eqb (length f) ((a.pages + 1) * m)) ≡ wrong_geometry a f
+    pub by_length : {z : PageSize} {m : ℕ} → s ≡ Some z → m ≡ words_of z → not (eqb (length f) ((a.pages + 1) * m)) ≡ wrong_geometry a f
     unfolding wrong_geometry
     by_length {z} {m} q d =
-        let n : size_of a.words ≡ FoundSize.Is z = sym e ∙ q in
+        let n : size_of a.words ≡ Some z = sym e ∙ q in
         let w : m ≡ a.words = d ∙ size_words a.words z n in
         rw (le-leb 1 a.pages l, le-leb a.pages 255 h, n, w)
 

@@ -11,7 +11,7 @@ ghost use Rattle.rules.specs.Areas.{page, kind, recovery, is_free, is_damage, na
 ghost use Rattle.rules.specs.Refusals.{wrong_geometry};
 ghost use Rattle.rules.specs.Places.{Right};
 
-use rules::{Area, FoundSize, Kind, PageSize, Recovery};
+use rules::{Area, Kind, PageSize, Recovery};
 
 // Whether no such area fits the run: the number of pages, the page size or the run's length is wrong.
 pub fn wrong_geometry(flash: &[u32], area: Area) -> bool
@@ -24,8 +24,8 @@ pub fn wrong_geometry(flash: &[u32], area: Area) -> bool
         return true;
     }
     match PageSize::of(area.words) {
-        FoundSize::None => true,
-        FoundSize::Is(size) => flash.len() != (area.pages + 1) * size.words(),
+        None => true,
+        Some(size) => flash.len() != (area.pages + 1) * size.words(),
     }
 }
 

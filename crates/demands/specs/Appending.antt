@@ -1,9 +1,8 @@
 -- An entry appended to a page that has the room: its stores are fair, they change the map in the one handle, and cut anywhere the area
 -- is recovered to the map from before or to the map from after. Assumes nothing.
-use Rattle.std.specs.Prelude.{◌≡◌, List, [], ◌∷◌, ◌++◌, Bool, true, false, cond, take, eqb}
+use Rattle.std.specs.Prelude.{◌≡◌, List, [], ◌∷◌, ◌++◌, Bool, true, false, cond, take, eqb, Option, Some, None}
 use Rattle.std.proofs.Math.Path.{refl}
 use Rattle.std.proofs.Common.{ap, sym, ◌∙◌, ⊎_elim, inl, inr, append_assoc, arith, length-append, length-take}
-use Rattle.std.proofs.Math.Option.{Option, some, none}
 use Prim.Native.Nat.{ℕ, suc, zero, ◌+◌, ◌-◌, ◌≤◌, ◌<◌}
 use Rattle.std.proofs.Math.ListN.{length}
 use Rattle.std.proofs.lemmas.List.{length-replicate, replicate-append-replicate, take-append-le}
@@ -234,18 +233,18 @@ module _ {a : Area} {m : Map} {n : ℕ} {f : List ℕ} (s : Stands a m n f) (i h
       stands_by (x ++ fresh ∷ y) t e (once_insert x fresh y q o) (λ u. look_add u x fresh y r.live q ∙ pick u (eqb u h) refl)
       (rw (live_at x fresh y, r.live) (omega arith))
     where
-      pick : (u : ℕ) (b : Bool) → eqb u h ≡ b → cond (eqb u h) (some d) (look u (x ++ y)) ≡ cond (eqb u h) (some d) (m u)
+      pick : (u : ℕ) (b : Bool) → eqb u h ≡ b → cond (eqb u h) (Some d) (look u (x ++ y)) ≡ cond (eqb u h) (Some d) (m u)
       pick u true p = rw p
       pick u false p = rw p (k u p)
 
   -- no entry had the handle
-  new_stands : find h (entries a f) ≡ none → Stands a m' n' added
+  new_stands : find h (entries a f) ≡ None → Stands a m' n' added
   new_stands e =
       let q = find_none h (entries a f) e in
       fresh_stands added A B added_settled added_entries (rw entries_old at q) (rw entries_old at once) (λ u p. ap (look u) (sym entries_old) ∙ stands_look s u) (rw entries_old at s.live)
 
   -- one had
-  module _ (e : Entry) (found : find h (entries a f) ≡ some e) where
+  module _ (e : Entry) (found : find h (entries a f) ≡ Some e) where
     abbrev done : List ℕ
     done = apply (bare e) added
 
@@ -333,15 +332,15 @@ module _ {a : Area} {m : Map} {n : ℕ} {f : List ℕ} (s : Stands a m n f) (i h
   append_fair = fair_append added_both.0 (go (find h (entries a f)) refl)
     where
       go : (c : Option Entry) → find h (entries a f) ≡ c → Fair a (bare_if c) added
-      go none e = fair_end
-      go (some c) e = (replaced c e).fair
+      go None e = fair_end
+      go (Some c) e = (replaced c e).fair
 
   pub append_stands : Stands a m' n' (made (append a h d i f) f)
   append_stands = rw (made_append new (bare_if (find h (entries a f))) f) (go (find h (entries a f)) refl)
     where
       go : (c : Option Entry) → find h (entries a f) ≡ c → Stands a m' n' (made (bare_if c) added)
-      go none e = new_stands e
-      go (some c) e = (replaced c e).stands
+      go None e = new_stands e
+      go (Some c) e = (replaced c e).stands
 
   -- and any part
   pub append_cut : (k : ℕ) → Safe a m n m' n' (made_first k (append a h d i f) f)
@@ -352,9 +351,9 @@ module _ {a : Area} {m : Map} {n : ℕ} {f : List ℕ} (s : Stands a m n f) (i h
       enough b = rw (first_all k new f b) (go (find h (entries a f)) refl (k - length new))
         where
           go : (c : Option Entry) → find h (entries a f) ≡ c → (j : ℕ) → Safe a m n m' n' (made_first j (bare_if c) added)
-          go none e j = rw (first_nil j added) (safe_after (new_stands e))
-          go (some c) e zero = rw (first_none (bare_if (some c)) added) (replaced c e).safe
-          go (some c) e (suc j) = rw (first_all (suc j) (bare_if (some c)) added (omega arith)) (safe_after (replaced c e).stands)
+          go None e j = rw (first_nil j added) (safe_after (new_stands e))
+          go (Some c) e zero = rw (first_none (bare_if (Some c)) added) (replaced c e).safe
+          go (Some c) e (suc j) = rw (first_all (suc j) (bare_if (Some c)) added (omega arith)) (safe_after (replaced c e).stands)
 
       short : k < length new → Safe a m n m' n' (made_first (k - length new) (bare_if (find h (entries a f))) (made_first k new f))
       short b =

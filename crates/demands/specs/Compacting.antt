@@ -6,7 +6,6 @@ use Rattle.std.proofs.Common.{sym, ◌∙◌, ⊎_elim, inr, zero-le, le_refl, l
 use Rattle.std.proofs.Math.Logic.{inl}
 use mathlib.Core.List.{List, [], ◌∷◌, ◌++◌, append_assoc}
 use Rattle.std.proofs.Math.Bool.{or-true}
-use Rattle.std.proofs.Math.Option.{or_else}
 use native.Mathlib.Omega.{arith}
 use Rattle.std.proofs.Math.ListN.{length}
 use Rattle.flash.specs.Stores.{blank, Words, none, more, Store, apply, made, made_first, Step, ◌then◌}
@@ -28,6 +27,7 @@ use Rattle.demands.specs.Layout.{before, behind, entries_split, entries_only}
 use Rattle.demands.specs.Settled.{open_r, closed_r, given_made, free_blank, Settled, Stands, ready_stands, stands_by, stands_settled, stands_look, mended_only, settled_page}
 use Rattle.demands.specs.Finishing.{Undamaged, undamaged_by, restored, finish_resumes, finish_fair, recovered_by}
 use Rattle.demands.specs.Room.{copy_length}
+use Rattle.std.specs.Option.{option_or}
 
 -- ---- the live entries alone
 goods_live : {es : List Item} → Goods es → Goods (keep_live es)
@@ -265,7 +265,7 @@ held_in_r {a} {f} u r i h =
 
 -- what is found of a handle afterwards: its entry in the very page, or else the one from before
 pub found_packed : {a : Area} {f : List ℕ} → Usable a f → ready a f ≡ true → (i : ℕ) → i < a.pages → (h : ℕ)
-    → find h (entries a (made (compact a i f) f)) ≡ or_else (find h (page_entries a (made (compact a i f) f) i)) (find h (entries a f))
+    → find h (entries a (made (compact a i f) f)) ≡ option_or (find h (page_entries a (made (compact a i f) f) i)) (find h (entries a f))
 found_packed {a} {f} u r i h k =
     let s = ready_stands u r in
     let e = packed_entries s i h in

@@ -1,6 +1,5 @@
 -- How many stores a recovery can take: of each entry at most one, of each page at most two, and a page made anew. Assumes nothing.
-use Rattle.std.specs.Prelude.{◌≡◌, refl, List, [], ◌∷◌, ◌++◌, Bool, true, false, ℕ, suc, zero, ◌+◌, ◌-◌, ◌*◌, ◌≤◌, length, take, drop}
-use Rattle.std.proofs.Math.Option.{Option, some, none}
+use Rattle.std.specs.Prelude.{◌≡◌, refl, List, [], ◌∷◌, ◌++◌, Bool, true, false, ℕ, suc, zero, ◌+◌, ◌-◌, ◌*◌, ◌≤◌, length, take, drop, Option, Some, None}
 use Rattle.std.proofs.Common.{zero-le, suc-le-suc, arith, suc-mul, length-append, length-take, length-drop}
 use Rattle.flash.specs.Stores.{made, each}
 use Rattle.rules.specs.declared.Area.{Area}
@@ -56,10 +55,10 @@ drop_few a f = omega (arith, supersede_few (entries a f), entries_few a f)
 
 -- ---- pages
 bare_few : (o : Option Entry) → length (bare_if_live o) ≤ 1
-bare_few none = zero-le
-bare_few (some e) = go (is_live e.handle) refl
+bare_few None = zero-le
+bare_few (Some e) = go (is_live e.handle) refl
   where
-    go : (b : Bool) → is_live e.handle ≡ b → length (bare_if_live (some e)) ≤ 1
+    go : (b : Bool) → is_live e.handle ≡ b → length (bare_if_live (Some e)) ≤ 1
     go true q = rw q (omega arith)
     go false q = rw q zero-le
 

@@ -1,26 +1,22 @@
 -- What is claimed of the manager's crash-safety, and where it is proved. The claims are of document 01's definitions (crate `rules`); `Terms` has
 -- the words that they are stated in. Each holds for every flash f of 32-bit words and every area a of right geometry on it: N from 1
 -- to 255, the three page sizes. Assumes nothing.
-use Rattle.std.specs.Prelude.{◌≡◌, refl, ◌⊎◌, ◌≢◌, true, false, ℕ, suc, ◌+◌, ◌-◌, ◌*◌, ◌≤◌, ◌<◌, length, take, drop, eqb}
+use Rattle.std.specs.Prelude.{◌≡◌, refl, ◌⊎◌, ◌≢◌, true, false, ℕ, suc, ◌+◌, ◌-◌, ◌*◌, ◌≤◌, ◌<◌, length, take, drop, eqb, Option, Some, None, Ok, Err}
 use Rattle.std.proofs.Math.Path.{ap, sym}
 use Rattle.std.proofs.Common.{◌∙◌, ⊎_elim, inl, inr, arith, eq-eqb, le-leb}
 use mathlib.Core.List.{List, [], ◌∷◌, ◌++◌, Permᴰ}
-use Rattle.std.proofs.Math.Option.{Option, some, none}
 use Rattle.std.specs.Int.Bits.{bit_and}
 use Rattle.std.proofs.lemmas.Bool.{lt-leb}
 use Rattle.flash.specs.Stores.{Store, made, made_first}
 use Rattle.rules.specs.declared.Area.{Area}
 use Rattle.rules.specs.declared.Refusal.{Refusal}
 use Rattle.rules.specs.declared.Refusal.TheVariants.{NotFound, NoRoom}
-use Rattle.rules.specs.declared.Answer.{Answer}
-use Rattle.rules.specs.declared.Reading.{Reading}
-use Rattle.rules.specs.declared.Yielded.{Yielded}
 use Rattle.rules.specs.declared.Kind.TheVariants.{Sealed}
 use Rattle.rules.specs.declared.Recovery.TheVariants.{Committed}
 use Rattle.rules.specs.Words.{is_live, seal}
 use Rattle.rules.specs.Walk.{Item, items, stop}
 use Rattle.rules.specs.Areas.{R, page, kind, recovery, Entry, page_entries, entries, twice, find, data_of, map_of, live_words, damaged, ready}
-use Rattle.rules.specs.Refusals.{format_checks, recover_checks, write_checks, find_checks, Plan, refuse, list, outcome_of}
+use Rattle.rules.specs.Refusals.{format_checks, recover_checks, write_checks, find_checks, Plan, refuse, list, outcome_of, Answer, Reading, Yielded}
 use Rattle.rules.specs.Lists.{format_list, bare_if, delete_list, compact, room_page, compact_page, write_list, recover_list, Request, format, recover, write, delete, plan_of}
 use Rattle.rules.specs.Search.{read_of, bad_place, search_of}
 use Rattle.demands.specs.Terms.{Given, Fair, WriteStores, Typed, Change, Proper, handle_in, new_words, Map, changed, changed_all, WithinQuota, new_words_all, Holds, was_cut, run, recovered, Recovers, Tried, CarriedAll, ProperAll, AllDiffer, FineAll, blanks, Goods, written, layout, PageIs, RIs, laid, StandsAt, last_live, kept}
@@ -36,6 +32,7 @@ use Rattle.demands.specs.Compacting.{packed_stands, packed_room}
 use Rattle.demands.specs.Reading.{read_held, read_absent, held_read, search_yields, search_skips_none, place_entry, entry_place, search_read}
 use Rattle.demands.specs.Requests.{Changes, legal_handle, map_holds, room_held, room_left, write_planned, write_refused, delete_planned, delete_refused, delete_absent, listed, delete_list_bare, write_counts, write_most, changes, change_ready, run_safe, recover_planned, recovers_ends, proper_of, Left, as_before, changed_already}
 use Rattle.demands.specs.Orders.{tried, enough, carried_all, reordered}
+use Rattle.rules.specs.declared.Made.{Made}
 
 module _ {a : Area} {f : List ℕ} (given : Given a f) where
   -- the terms of the proofs for those of the claims
@@ -58,10 +55,10 @@ module _ {a : Area} {f : List ℕ} (given : Given a f) where
   -- ---- 0. What power does: of a plan's list the first k stores are made, or all of them if there are fewer, and as many are counted; a
   -- refusal makes none. The area stays one as given.
   pub with_power : (r : Request) (ss : List Store) → plan_of a r f ≡ list ss → (k : ℕ)
-      → ((run a r k f).flash ≡ made_first k ss f) × (length ss ≤ k → (run a r k f).answer ≡ Answer.Done (length ss)) × (k < length ss → (run a r k f).answer ≡ Answer.Cut k)
+      → ((run a r k f).flash ≡ made_first k ss f) × (length ss ≤ k → (run a r k f).answer ≡ Ok (Made.Done (length ss))) × (k < length ss → (run a r k f).answer ≡ Ok (Made.Cut k))
   with_power r ss e k = rw e (refl, (λ l. rw (le-leb (length ss) k l)), (λ l. rw (lt-leb (length ss) k l)))
 
-  pub refused : (r : Request) (n : Refusal) → plan_of a r f ≡ refuse n → (k : ℕ) → ((run a r k f).flash ≡ f) × ((run a r k f).answer ≡ Answer.Refused n)
+  pub refused : (r : Request) (n : Refusal) → plan_of a r f ≡ refuse n → (k : ℕ) → ((run a r k f).flash ≡ f) × ((run a r k f).answer ≡ Err n)
   refused r n e k = rw e (refl, refl)
 
   pub stays_given : (r : Request) (k : ℕ) → Given a (run a r k f).flash
@@ -76,19 +73,19 @@ module _ {a : Area} {f : List ℕ} (given : Given a f) where
   pub format_plan : plan_of a format f ≡ list (format_list a f)
   format_plan = rw fit.right
 
-  pub write_plan : ready a f ≡ true → (h : ℕ) (d : List ℕ) → Proper (write h d) → (map_of a f h ≡ some d) ⊎ WithinQuota a (live_words (entries a f) + (length d + 1))
+  pub write_plan : ready a f ≡ true → (h : ℕ) (d : List ℕ) → Proper (write h d) → (map_of a f h ≡ Some d) ⊎ WithinQuota a (live_words (entries a f) + (length d + 1))
       → plan_of a (write h d) f ≡ list (write_list a h d f)
   write_plan r h d p c = write_planned (stands r) h d p (⊎_elim (λ e. room_held a f h d (map_holds a f h d e)) (λ l. room_left a f h d l) c)
 
-  pub write_no_room : ready a f ≡ true → (h : ℕ) (d : List ℕ) → Proper (write h d) → map_of a f h ≢ some d
+  pub write_no_room : ready a f ≡ true → (h : ℕ) (d : List ℕ) → Proper (write h d) → map_of a f h ≢ Some d
       → a.pages * (a.words - 3 - 33) < live_words (entries a f) + (length d + 1) → plan_of a (write h d) f ≡ refuse NoRoom
   write_no_room r h d p n l = write_refused (stands r) h d p n l
 
-  pub delete_plan : ready a f ≡ true → (h : ℕ) → Proper (delete h) → (d : List ℕ) → map_of a f h ≡ some d → plan_of a (delete h) f ≡ list (delete_list a h f)
+  pub delete_plan : ready a f ≡ true → (h : ℕ) → Proper (delete h) → (d : List ℕ) → map_of a f h ≡ Some d → plan_of a (delete h) f ≡ list (delete_list a h f)
   unfolding map_of
   delete_plan r h p d e = let w = data_some (find h (entries a f)) d e in delete_planned (stands r) h p w.0 w.1 ∙ ap (λ (o : Option Entry). list (bare_if o)) (sym w.1)
 
-  pub delete_none : ready a f ≡ true → (h : ℕ) → Proper (delete h) → map_of a f h ≡ none → plan_of a (delete h) f ≡ refuse NotFound
+  pub delete_none : ready a f ≡ true → (h : ℕ) → Proper (delete h) → map_of a f h ≡ None → plan_of a (delete h) f ≡ refuse NotFound
   delete_none r h p e = delete_refused (stands r) h p e
 
   -- ---- 1. No store asks a cleared bit to come back, and each lies inside the run: whatever a plan lists, for whatever is asked.
@@ -126,26 +123,26 @@ module _ {a : Area} {f : List ℕ} (given : Given a f) where
   -- ---- 3. The page that a write takes is the lowest whose seal leaves the room for an entry of l words, and the one to compact the lowest
   -- whose live words leave it. Within the quota there is room: where no page has it a page to compact exists, and compacted that very page
   -- has it, with the map as it was.
-  pub lowest_room : (l i : ℕ) → room_page a f l ≡ some i
+  pub lowest_room : (l i : ℕ) → room_page a f l ≡ Some i
       → (i < a.pages) × (stop (page a f i) + l ≤ a.words - 1) × ((j : ℕ) → j < i → a.words - 1 < stop (page a f j) + l)
   lowest_room l i e = room_page_first a f l i e
 
-  pub no_room : (l : ℕ) → room_page a f l ≡ none → (i : ℕ) → i < a.pages → a.words - 1 < stop (page a f i) + l
+  pub no_room : (l : ℕ) → room_page a f l ≡ None → (i : ℕ) → i < a.pages → a.words - 1 < stop (page a f i) + l
   no_room l e i h = no_room_page a f l e i h
 
-  pub lowest_compact : (l i : ℕ) → compact_page a f l ≡ some i
+  pub lowest_compact : (l i : ℕ) → compact_page a f l ≡ Some i
       → (i < a.pages) × (live_words (page_entries a f i) + l ≤ a.words - 3) × ((j : ℕ) → j < i → a.words - 3 < live_words (page_entries a f j) + l)
   lowest_compact l i e = compact_page_first a f l i e
 
-  pub room : ready a f ≡ true → (l : ℕ) → l ≤ 33 → WithinQuota a (live_words (entries a f) + l) → room_page a f l ≡ none
-      → (i : ℕ) × (i < a.pages) × (compact_page a f l ≡ some i) × (stop (page a (made (compact a i f) f) i) + l ≤ a.words - 1)
+  pub room : ready a f ≡ true → (l : ℕ) → l ≤ 33 → WithinQuota a (live_words (entries a f) + l) → room_page a f l ≡ None
+      → (i : ℕ) × (i < a.pages) × (compact_page a f l ≡ Some i) × (stop (page a (made (compact a i f) f) i) + l ≤ a.words - 1)
       × Holds a (made (compact a i f) f) (map_of a f)
   room r l h q e = go (compact_page a f l) refl
     where
-      go : (o : Option ℕ) → compact_page a f l ≡ o → (i : ℕ) × (i < a.pages) × (o ≡ some i) × (stop (page a (made (compact a i f) f) i) + l ≤ a.words - 1)
+      go : (o : Option ℕ) → compact_page a f l ≡ o → (i : ℕ) × (i < a.pages) × (o ≡ Some i) × (stop (page a (made (compact a i f) f) i) + l ≤ a.words - 1)
           × Holds a (made (compact a i f) f) (map_of a f)
-      go none c = absurd (compact_exists a f l (shape_of fit) h q c)
-      go (some i) c =
+      go None c = absurd (compact_exists a f l (shape_of fit) h q c)
+      go (Some i) c =
           let p = compact_page_first a f l i c in
           (i, p.0, refl, packed_room (stands r) i p.0 l p.1, so_holds (packed_stands (stands r) i p.0))
 
@@ -157,22 +154,22 @@ module _ {a : Area} {f : List ℕ} (given : Given a f) where
   pub live_words_most : (r : Request) → Change r → (ss : List Store) → plan_of a r f ≡ list ss → live_words (entries a (made ss f)) ≤ live_words (entries a f) + new_words r
   live_words_most r c ss e = (changed_by r c ss e).stands.live
 
-  pub not_found : ready a f ≡ true → (h : ℕ) → plan_of a (delete h) f ≡ refuse NotFound → map_of a f h ≡ none
+  pub not_found : ready a f ≡ true → (h : ℕ) → plan_of a (delete h) f ≡ refuse NotFound → map_of a f h ≡ None
   not_found r h e = delete_absent (stands r) h e
 
   pub reads_back : (h : ℕ) (d : List ℕ) → Change (write h d) → (ss : List Store) → plan_of a (write h d) f ≡ list ss
-      → (p : ℕ) × (read_of a h (made ss f) ≡ Reading.At p (length d)) × StandsAt (made ss f) p h d
+      → (p : ℕ) × (read_of a h (made ss f) ≡ Ok (record { place = p; words = length d })) × StandsAt (made ss f) p h d
   reads_back h d c ss e =
       let t = (changed_by (write h d) c ss e).stands in
       read_held h d t.given t.ready (t.map h ∙ rw (eq-eqb h h refl))
 
-  pub reads_none : (h : ℕ) (ss : List Store) → plan_of a (delete h) f ≡ list ss → read_of a h (made ss f) ≡ Reading.Refused NotFound
+  pub reads_none : (h : ℕ) (ss : List Store) → plan_of a (delete h) f ≡ list ss → read_of a h (made ss f) ≡ Err NotFound
   reads_none h ss e =
       let t = (changed_by (delete h) tt ss e).stands in
       let b = (listed (find_checks a f h) (delete_list a h f) ss e).0.1.1.1.0 in
       read_absent h t.given t.ready b (t.map h ∙ rw (eq-eqb h h refl))
 
-  pub formatted : (ss : List Store) → plan_of a format f ≡ list ss → Holds a (made ss f) (λ u. none)
+  pub formatted : (ss : List Store) → plan_of a format f ≡ list ss → Holds a (made ss f) (λ u. None)
   unfolding map_of
   formatted ss e = rw (← (listed (format_checks a f) (format_list a f) ss e).1) (record { given = given_of (format_settled fit).given; ready = format_ready fit; map = λ u. rw (format_empty fit) })
 
@@ -191,29 +188,29 @@ module _ {a : Area} {f : List ℕ} (given : Given a f) where
 
   -- And an undamaged area is one whose pages are sealed or torn as the layout has them, but for the one that R names if it is committed; no
   -- other R is undamaged.
-  pub undamaged_layout : damaged a f ≡ false → (o : Option ℕ) × RIs a.pages (page a f (R a)) o × ((i : ℕ) → i < a.pages → o ≢ some i → PageIs a.pages i (page a f i))
+  pub undamaged_layout : damaged a f ≡ false → (o : Option ℕ) × RIs a.pages (page a f (R a)) o × ((i : ℕ) → i < a.pages → o ≢ Some i → PageIs a.pages i (page a f i))
   undamaged_layout d = undamaged_pages_are (undamaged d)
 
-  pub layout_undamaged : (o : Option ℕ) → RIs a.pages (page a f (R a)) o → ((i : ℕ) → i < a.pages → o ≢ some i → PageIs a.pages i (page a f i)) → damaged a f ≡ false
+  pub layout_undamaged : (o : Option ℕ) → RIs a.pages (page a f (R a)) o → ((i : ℕ) → i < a.pages → o ≢ Some i → PageIs a.pages i (page a f i)) → damaged a f ≡ false
   layout_undamaged o r p = pages_undamaged fit r p
 
-  pub map_read : ready a f ≡ true → (h : ℕ) (d : List ℕ) → map_of a f h ≡ some d
-      → (p : ℕ) × (read_of a h f ≡ Reading.At p (length d)) × StandsAt f p h d
+  pub map_read : ready a f ≡ true → (h : ℕ) (d : List ℕ) → map_of a f h ≡ Some d
+      → (p : ℕ) × (read_of a h f ≡ Ok (record { place = p; words = length d })) × StandsAt f p h d
   map_read r h d e = read_held h d fit r e
 
-  pub map_unread : ready a f ≡ true → (h : ℕ) → 1 ≤ h → h ≤ 0x7EFF → map_of a f h ≡ none → read_of a h f ≡ Reading.Refused NotFound
+  pub map_unread : ready a f ≡ true → (h : ℕ) → 1 ≤ h → h ≤ 0x7EFF → map_of a f h ≡ None → read_of a h f ≡ Err NotFound
   map_unread r h l k e = read_absent h fit r (legal_handle h l k) e
 
-  pub read_map : (h p n : ℕ) → read_of a h f ≡ Reading.At p n → (map_of a f h ≡ some (take n (drop (suc p) f))) × StandsAt f p h (take n (drop (suc p) f))
+  pub read_map : (h p n : ℕ) → read_of a h f ≡ Ok (record { place = p; words = n }) → (map_of a f h ≡ Some (take n (drop (suc p) f))) × StandsAt f p h (take n (drop (suc p) f))
   read_map h p n e = held_read h p n fit e
 
-  pub search_map : (mask pattern place q : ℕ) → search_of a mask pattern place f ≡ Yielded.At q
-      → (h : ℕ) × (d : List ℕ) × (place < q) × StandsAt f q h d × (map_of a f h ≡ some d) × (is_live h ≡ true) × (eqb (bit_and h mask) (bit_and pattern mask) ≡ true)
+  pub search_map : (mask pattern place q : ℕ) → search_of a mask pattern place f ≡ Ok q
+      → (h : ℕ) × (d : List ℕ) × (place < q) × StandsAt f q h d × (map_of a f h ≡ Some d) × (is_live h ≡ true) × (eqb (bit_and h mask) (bit_and pattern mask) ≡ true)
       × (bad_place a f q ≡ false)
   search_map mask pattern place q e = search_yields mask pattern place q fit e
 
-  pub search_all : (mask pattern place h p n : ℕ) → bad_place a f place ≡ false → read_of a h f ≡ Reading.At p n
-      → eqb (bit_and h mask) (bit_and pattern mask) ≡ true → place < p → (q : ℕ) × (search_of a mask pattern place f ≡ Yielded.At q) × (q ≤ p)
+  pub search_all : (mask pattern place h p n : ℕ) → bad_place a f place ≡ false → read_of a h f ≡ Ok (record { place = p; words = n })
+      → eqb (bit_and h mask) (bit_and pattern mask) ≡ true → place < p → (q : ℕ) × (search_of a mask pattern place f ≡ Ok q) × (q ≤ p)
   search_all mask pattern place h p n b r e l = search_skips_none mask pattern place h p n fit b r e l
 
   pub search_places : (place : ℕ) → bad_place a f place ≡ false
@@ -223,7 +220,7 @@ module _ {a : Area} {f : List ℕ} (given : Given a f) where
   pub places_searched : (pre : List Entry) (e : Entry) (suf : List Entry) → entries a f ≡ pre ++ e ∷ suf → bad_place a f e.place ≡ false
   places_searched pre e suf q = entry_place a f pre e suf q
 
-  pub search_one : (h p n : ℕ) → read_of a h f ≡ Reading.At p n → search_of a 0xFFFF h 0 f ≡ Yielded.At p
+  pub search_one : (h p n : ℕ) → read_of a h f ≡ Ok (record { place = p; words = n }) → search_of a 0xFFFF h 0 f ≡ Ok p
   search_one h p n e = search_read h p n fit e
 
   -- ---- 5. Recovery of an undamaged area ends ready; cut at any store and made anew it ends in the very same flash, word for word, however

@@ -1,19 +1,18 @@
 -- Lists of entries: the data, the doubles and the live words of a list in which an entry is put in, invalidated, superseded or copied.
 -- Assumes nothing.
-use Rattle.std.specs.Prelude.{◌≡◌, refl, ◌⊎◌, Bool, true, false, cond, ◌&&◌, ◌||◌, ℕ, ◌+◌, length, eqb}
+use Rattle.std.specs.Prelude.{◌≡◌, refl, ◌⊎◌, Bool, true, false, cond, ◌&&◌, ◌||◌, ℕ, ◌+◌, length, eqb, Option, Some, None, is_none}
 use Rattle.std.proofs.Common.{ap, sym, ◌∙◌, ⊎_elim, inl, inr, true≢false, arith, length-append, eqb-true, eq-eqb}
 use mathlib.Core.List.{List, [], ◌∷◌, ◌++◌, append_assoc, nil≢cons, head-eq_of_cons-eq, tail-eq_of_cons-eq}
 use Rattle.std.proofs.Math.Bool.{or-true}
-use Rattle.std.proofs.Math.Option.{Option, some, none, or_else}
 use Rattle.std.proofs.lemmas.Bool.{eqb-false}
 use Rattle.flash.specs.Stores.{Store}
 use Rattle.rules.specs.Words.{is_live}
 use Rattle.rules.specs.Walk.{Item, entry_length, codes}
 use Rattle.rules.specs.Areas.{Entry, placed, any_of, first_of, live_of, doubled, twice, find, data_of, live_words}
-use Rattle.rules.specs.Refusals.{is_none}
 use Rattle.rules.specs.Lists.{bare, keep_live, supersede}
 use Rattle.rules.specs.Laws.{and_left, and_right, nor_left, nor_right, live_append}
 use Rattle.demands.specs.Terms.{last_live}
+use Rattle.std.specs.Option.{option_or}
 
 -- an entry whose header is its bare length
 abbrev pub zeroed : Entry → Entry
@@ -78,20 +77,20 @@ none_dead : (h : ℕ) (x : List Entry) → is_live h ≡ false → any_of (live_
 none_dead h [] q = refl
 none_dead h (c ∷ x) q = rw q (none_dead h x q)
 
-first_at : (t : Entry → Bool) (x : List Entry) (e : Entry) (y : List Entry) → t e ≡ true → any_of t (x ++ y) ≡ false → first_of t (x ++ e ∷ y) ≡ some e
+first_at : (t : Entry → Bool) (x : List Entry) (e : Entry) (y : List Entry) → t e ≡ true → any_of t (x ++ y) ≡ false → first_of t (x ++ e ∷ y) ≡ Some e
 first_at t [] e y p q = rw p
 first_at t (c ∷ x) e y p q = rw (nor_left (t c) _ q) (first_at t x e y p (nor_right (t c) _ q))
 
-pub first_some : (t : Entry → Bool) (x : List Entry) (e : Entry) → first_of t x ≡ some e → (pre suf : List Entry) × (x ≡ pre ++ e ∷ suf) × (t e ≡ true)
+pub first_some : (t : Entry → Bool) (x : List Entry) (e : Entry) → first_of t x ≡ Some e → (pre suf : List Entry) × (x ≡ pre ++ e ∷ suf) × (t e ≡ true)
 first_some t [] e q = absurd (let z : ◌≡◌ {A = ℕ} 0 1 = cc in omega arith)
 first_some t (c ∷ x) e q = go (t c) refl q (first_some t x e)
   where
-    go : (b : Bool) → t c ≡ b → cond b (some c) (first_of t x) ≡ some e
-        → (first_of t x ≡ some e → (pre suf : List Entry) × (x ≡ pre ++ e ∷ suf) × (t e ≡ true)) → (pre suf : List Entry) × (c ∷ x ≡ pre ++ e ∷ suf) × (t e ≡ true)
+    go : (b : Bool) → t c ≡ b → cond b (Some c) (first_of t x) ≡ Some e
+        → (first_of t x ≡ Some e → (pre suf : List Entry) × (x ≡ pre ++ e ∷ suf) × (t e ≡ true)) → (pre suf : List Entry) × (c ∷ x ≡ pre ++ e ∷ suf) × (t e ≡ true)
     go true r q ih = let k : c ≡ e = cc in ([], x, ap (λ (u : Entry). u ∷ x) k, ap t (sym k) ∙ r)
     go false r q ih = let n = ih q in (c ∷ n.0, n.1, ap (λ (u : List Entry). c ∷ u) n.2, n.3)
 
-pub find_some : (h : ℕ) (x : List Entry) (e : Entry) → find h x ≡ some e → (p s : List Entry) × (x ≡ p ++ e ∷ s) × (e.handle ≡ h) × (is_live h ≡ true)
+pub find_some : (h : ℕ) (x : List Entry) (e : Entry) → find h x ≡ Some e → (p s : List Entry) × (x ≡ p ++ e ∷ s) × (e.handle ≡ h) × (is_live h ≡ true)
 find_some h x e q =
     let r = first_some (live_of h) x e q in
     let l = live_handle h e r.3 in
@@ -107,27 +106,27 @@ any_some t (c ∷ x) q = go (t c) refl q (any_some t x)
     go false r q ih = let w = ih q in (c ∷ w.0, w.1, w.2, ap (λ (u : List Entry). c ∷ u) w.3, w.4)
 
 -- what is found, and its data
-pub found_some : (o : Option Entry) → is_none o ≡ false → (e : Entry) × (o ≡ some e)
-found_some none q = absurd (true≢false q)
-found_some (some e) q = (e, refl)
+pub found_some : (o : Option Entry) → is_none o ≡ false → (e : Entry) × (o ≡ Some e)
+found_some None q = absurd (true≢false q)
+found_some (Some e) q = (e, refl)
 
-pub data_some : (o : Option Entry) (d : List ℕ) → data_of o ≡ some d → (e : Entry) × (o ≡ some e) × (e.words ≡ d)
-data_some none d q = absurd (let z : ◌≡◌ {A = ℕ} 0 1 = cc in omega arith)
-data_some (some e) d q = (e, refl, cc)
+pub data_some : (o : Option Entry) (d : List ℕ) → data_of o ≡ Some d → (e : Entry) × (o ≡ Some e) × (e.words ≡ d)
+data_some None d q = absurd (let z : ◌≡◌ {A = ℕ} 0 1 = cc in omega arith)
+data_some (Some e) d q = (e, refl, cc)
 
-pub data_none : (o : Option Entry) → data_of o ≡ none → o ≡ none
-data_none none q = refl
-data_none (some e) q = absurd (let z : ◌≡◌ {A = ℕ} 0 1 = cc in omega arith)
+pub data_none : (o : Option Entry) → data_of o ≡ None → o ≡ None
+data_none None q = refl
+data_none (Some e) q = absurd (let z : ◌≡◌ {A = ℕ} 0 1 = cc in omega arith)
 
-pub find_none : (h : ℕ) (x : List Entry) → find h x ≡ none → any_of (live_of h) x ≡ false
+pub find_none : (h : ℕ) (x : List Entry) → find h x ≡ None → any_of (live_of h) x ≡ false
 find_none h [] q = refl
 find_none h (c ∷ x) q = go (live_of h c) refl q (find_none h x)
   where
-    go : (b : Bool) → live_of h c ≡ b → cond b (some c) (find h x) ≡ none → (find h x ≡ none → any_of (live_of h) x ≡ false) → any_of (live_of h) (c ∷ x) ≡ false
+    go : (b : Bool) → live_of h c ≡ b → cond b (Some c) (find h x) ≡ None → (find h x ≡ None → any_of (live_of h) x ≡ false) → any_of (live_of h) (c ∷ x) ≡ false
     go true r q ih = absurd (let z : ◌≡◌ {A = ℕ} 0 1 = cc in omega arith)
     go false r q ih = rw r (ih q)
 
-none_find : (h : ℕ) (x : List Entry) → any_of (live_of h) x ≡ false → find h x ≡ none
+none_find : (h : ℕ) (x : List Entry) → any_of (live_of h) x ≡ false → find h x ≡ None
 none_find h [] q = refl
 none_find h (c ∷ x) q = rw (nor_left (live_of h c) _ q) (none_find h x (nor_right (live_of h c) _ q))
 
@@ -179,10 +178,10 @@ alike_any h (dead {d} q s) = rw (dead_never h d q) (alike_any h s)
 alike_look : {x y : List Entry} (h : ℕ) → Alike x y → look h x ≡ look h y
 alike_look h end = refl
 alike_look h (same {c} {d} {x} {y} k w s) =
-    ap (λ (u : ℕ). data_of (cond (is_live h && eqb u h) (some c) (find h x))) k ∙ go (live_of h d) (alike_look h s)
+    ap (λ (u : ℕ). data_of (cond (is_live h && eqb u h) (Some c) (find h x))) k ∙ go (live_of h d) (alike_look h s)
   where
-    go : (b : Bool) → look h x ≡ look h y → data_of (cond b (some c) (find h x)) ≡ data_of (cond b (some d) (find h y))
-    go true ih = ap (λ (u : List ℕ). some u) w
+    go : (b : Bool) → look h x ≡ look h y → data_of (cond b (Some c) (find h x)) ≡ data_of (cond b (Some d) (find h y))
+    go true ih = ap (λ (u : List ℕ). Some u) w
     go false ih = ih
 alike_look h (dead {d} q s) = rw (dead_never h d q) (alike_look h s)
 
@@ -210,18 +209,18 @@ pub look_other : (u : ℕ) (x : List Entry) (e : Entry) (y : List Entry) → eqb
 look_other u x e y q = ap data_of (first_skip (live_of u) x e y (other_never u e q))
 
 pub look_drop : (u : ℕ) (x : List Entry) (e : Entry) (y : List Entry) → twice (x ++ e ∷ y) ≡ false
-    → look u (x ++ zeroed e ∷ y) ≡ cond (eqb u e.handle) none (look u (x ++ e ∷ y))
+    → look u (x ++ zeroed e ∷ y) ≡ cond (eqb u e.handle) None (look u (x ++ e ∷ y))
 look_drop u x e y t = look_skip u x e y ∙ go (eqb u e.handle) refl
   where
-    go : (b : Bool) → eqb u e.handle ≡ b → look u (x ++ y) ≡ cond b none (look u (x ++ e ∷ y))
+    go : (b : Bool) → eqb u e.handle ≡ b → look u (x ++ y) ≡ cond b None (look u (x ++ e ∷ y))
     go true q = rw (eqb-true u e.handle q) (ap data_of (none_find e.handle (x ++ y) (once_apart x e y t)))
     go false q = sym (look_other u x e y q)
 
 pub look_add : (u : ℕ) (x : List Entry) (e : Entry) (y : List Entry) → is_live e.handle ≡ true → any_of (live_of e.handle) (x ++ y) ≡ false
-    → look u (x ++ e ∷ y) ≡ cond (eqb u e.handle) (some e.words) (look u (x ++ y))
+    → look u (x ++ e ∷ y) ≡ cond (eqb u e.handle) (Some e.words) (look u (x ++ y))
 look_add u x e y l n = go (eqb u e.handle) refl
   where
-    go : (b : Bool) → eqb u e.handle ≡ b → look u (x ++ e ∷ y) ≡ cond b (some e.words) (look u (x ++ y))
+    go : (b : Bool) → eqb u e.handle ≡ b → look u (x ++ e ∷ y) ≡ cond b (Some e.words) (look u (x ++ y))
     go true q = rw (eqb-true u e.handle q) (ap data_of (first_at (live_of e.handle) x e y (live_mine e.handle e l refl) n))
     go false q = look_other u x e y q
 
@@ -293,7 +292,7 @@ any_stays h x e y d = go (live_of h e) refl
         any_skip (live_of h) x (zeroed e) y (zeroed_dead h e) ∙ any_right (live_of h) x y z ∙ sym (any_at (live_of h) x e y p)
     go false p = any_skip (live_of h) x (zeroed e) y (zeroed_dead h e) ∙ sym (any_skip (live_of h) x e y p)
 
-last_none : (h : ℕ) (x : List Entry) → any_of (live_of h) x ≡ false → last_live h x ≡ none
+last_none : (h : ℕ) (x : List Entry) → any_of (live_of h) x ≡ false → last_live h x ≡ None
 last_none h [] q = refl
 last_none h (c ∷ x) q = rw (nor_right (live_of h c) _ q, nor_left (live_of h c) _ q)
 
@@ -382,7 +381,7 @@ first_past t [] [] z q = refl
 first_past t [] (e ∷ y) z q = rw (nor_left (t e) _ q) (first_past t [] y z (nor_right (t e) _ q))
 first_past t (c ∷ x) y z q = rw (first_past t x y z q)
 
-find_among : (h : ℕ) (x y z : List Entry) (e : Entry) → twice (x ++ (y ++ z)) ≡ false → find h y ≡ some e → find h (x ++ (y ++ z)) ≡ some e
+find_among : (h : ℕ) (x y z : List Entry) (e : Entry) → twice (x ++ (y ++ z)) ≡ false → find h y ≡ Some e → find h (x ++ (y ++ z)) ≡ Some e
 find_among h x y z e t q =
     let r = find_some h y e q in
     let p = r.0 in
@@ -394,15 +393,14 @@ find_among h x y z e t q =
     (ap (λ (u : ℕ). any_of (live_of u) ((x ++ p) ++ (s ++ z))) (sym r.3) ∙ n)
 
 pub find_kept : (h : ℕ) (A : List Entry) (at bt : ℕ) (es : List Item) (B : List Entry) → twice (A ++ (placed at (keep_live es) ++ B)) ≡ false
-    → find h (A ++ (placed at (keep_live es) ++ B)) ≡ or_else (find h (placed at (keep_live es))) (find h (A ++ (placed bt es ++ B)))
-unfolding or_else
+    → find h (A ++ (placed at (keep_live es) ++ B)) ≡ option_or (find h (placed at (keep_live es))) (find h (A ++ (placed bt es ++ B)))
 find_kept h A at bt es B t = go (find h K) refl
   where
     K : List Entry
     K = placed at (keep_live es)
 
-    go : (o : Option Entry) → find h K ≡ o → find h (A ++ (K ++ B)) ≡ or_else o (find h (A ++ (placed bt es ++ B)))
-    go (some e) q = find_among h A K B e t q
-    go none q =
+    go : (o : Option Entry) → find h K ≡ o → find h (A ++ (K ++ B)) ≡ option_or o (find h (A ++ (placed bt es ++ B)))
+    go (Some e) q = find_among h A K B e t q
+    go None q =
         let n = find_none h K q in
         first_past (live_of h) A K B n ∙ sym (first_past (live_of h) A (placed bt es) B (sym (alike_any h (alike_kept at bt es)) ∙ n))

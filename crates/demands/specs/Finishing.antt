@@ -1,13 +1,12 @@
 -- Recovery's step (a), and the whole of a recovery: cut anywhere and made anew, it ends in the very same flash, and that is a ready
 -- area. Assumes nothing.
-use Rattle.std.specs.Prelude.{◌≡◌, ◌⊎◌, ◌≢◌, Bool, false, ◌&&◌, ◌||◌, ℕ, suc, zero, ◌+◌, ◌-◌, ◌≤◌, ◌<◌, get_or, length, drop}
+use Rattle.std.specs.Prelude.{◌≡◌, ◌⊎◌, ◌≢◌, Bool, false, ◌&&◌, ◌||◌, ℕ, suc, zero, ◌+◌, ◌-◌, ◌≤◌, ◌<◌, get_or, length, drop, Option, Some, None}
 use Rattle.std.proofs.Math.Path.{refl, ap, sym, subst}
 use Rattle.std.proofs.Common.{◌∙◌, inl, inr, true≢false, zero-le, arith, le_refl}
 use Rattle.std.proofs.Math.Logic.{⊎_elim}
 use mathlib.Core.List.{List, [], ◌∷◌, ◌++◌, append_assoc}
 use Rattle.std.proofs.Math.Bool.{or-true, true, not, and_assoc}
 use Rattle.std.proofs.lemmas.Bool.{false≢true}
-use Rattle.std.proofs.Math.Option.{Option, some, none}
 use Rattle.std.proofs.lemmas.List.{get_or-replicate, length-replicate, take-append-le}
 use Rattle.std.proofs.Math.ListN.{take, length-append}
 use Rattle.std.proofs.Math.Seq.{take_at}
@@ -426,34 +425,34 @@ page_sound {n} {i} (sealed_page es m gs e) = rw (e, ← image_layout n i es seal
 page_sound {n} {i} (torn_page es m gs e) = rw (e, ← image_layout n i es blank m, kind_image at_blank n i m es gs)
 
 pub undamaged_pages_are : {a : Area} {f : List ℕ} → Undamaged a f
-    → (o : Option ℕ) × RIs a.pages (page a f (R a)) o × ((i : ℕ) → i < a.pages → o ≢ some i → PageIs a.pages i (page a f i))
+    → (o : Option ℕ) × RIs a.pages (page a f (R a)) o × ((i : ℕ) → i < a.pages → o ≢ Some i → PageIs a.pages i (page a f i))
 undamaged_pages_are {a} {f} u = go (recovery a f) refl
   where
     long : (i : ℕ) → i ≤ a.pages → 2 ≤ length (page a f i)
     long i h = let w = (shape_of u.given).wide in let l = length_page a f i (page_in (shape_of u.given) i h) in omega arith
 
-    go : (r : Recovery) → recovery a f ≡ r → (o : Option ℕ) × RIs a.pages (page a f (R a)) o × ((i : ℕ) → i < a.pages → o ≢ some i → PageIs a.pages i (page a f i))
+    go : (r : Recovery) → recovery a f ≡ r → (o : Option ℕ) × RIs a.pages (page a f (R a)) o × ((i : ℕ) → i < a.pages → o ≢ Some i → PageIs a.pages i (page a f i))
     go Free e =
         let b = free_blank a.pages (page a f (R a)) e in
         let l = long (R a) (le_refl (R a)) in
         let w : get_or (page a f (R a)) 1 0 ≡ blank = ap (λ (r : List ℕ). get_or r 1 0) b ∙ get_or-replicate (length (page a f (R a))) 1 blank 0 (omega arith) in
-        (none, open_page w, λ i h n. sound_page (long i (omega arith)) (rw e at (undamaged_pages u i h)))
-    go Unfinished e = (none, open_page (unfinished_word a.pages (page a f (R a)) e), λ i h n. sound_page (long i (omega arith)) (rw e at (undamaged_pages u i h)))
+        (None, open_page w, λ i h n. sound_page (long i (omega arith)) (rw e at (undamaged_pages u i h)))
+    go Unfinished e = (None, open_page (unfinished_word a.pages (page a f (R a)) e), λ i h n. sound_page (long i (omega arith)) (rw e at (undamaged_pages u i h)))
     go (Committed j) e =
         let c = committed_r a.pages j (page a f (R a)) e in
         let w = sealed_shape a.pages j (page a f (R a)) (long (R a) (le_refl (R a))) c.1 in
         let es = items (page a f (R a)) in (
-          some j,
+          Some j,
           committed_page c.0 es w.0 (goods_items (page a f (R a))) (w.1 ∙ image_layout a.pages j es seal w.0),
           λ i h n. sound_page (long i (omega arith)) (other i n (rw e at (undamaged_pages u i h))),
         )
       where
-        other : (i : ℕ) → some j ≢ some i → eqb i j || is_sound (kind a f i) ≡ true → is_sound (kind a f i) ≡ true
-        other i n q = let z = ne_eqb i j (λ c. n (ap some (sym c))) in rw z at q
+        other : (i : ℕ) → Some j ≢ Some i → eqb i j || is_sound (kind a f i) ≡ true → is_sound (kind a f i) ≡ true
+        other i n q = let z = ne_eqb i j (λ c. n (ap Some (sym c))) in rw z at q
     go Damage e = absurd (true≢false (sym (ap is_damage e) ∙ undamaged_r a f u))
 
 pub pages_undamaged : {a : Area} {f : List ℕ} → Usable a f → {o : Option ℕ} → RIs a.pages (page a f (R a)) o
-    → ((i : ℕ) → i < a.pages → o ≢ some i → PageIs a.pages i (page a f i)) → damaged a f ≡ false
+    → ((i : ℕ) → i < a.pages → o ≢ Some i → PageIs a.pages i (page a f i)) → damaged a f ≡ false
 pages_undamaged {a} {f} g (open_page w) h =
     ⊎_elim (λ c. undamaged_by a f (rw c) (λ i l. rw c (page_sound (h i l (λ e. let z : ◌≡◌ {A = ℕ} 0 1 = cc in omega arith)))))
     (λ c. undamaged_by a f (rw c) (λ i l. rw c (page_sound (h i l (λ e. let z : ◌≡◌ {A = ℕ} 0 1 = cc in omega arith))))) (open_r a.pages (page a f (R a)) w)
@@ -465,5 +464,5 @@ pages_undamaged {a} {f} g (committed_page {i = j} l es m gs e) h = undamaged_by 
     pages : (i : ℕ) → i < a.pages → names (recovery a f) i || is_sound (kind a f i) ≡ true
     pages i b = rw c (⊎_elim (λ q. rw (eq-eqb i j (sym q))) (λ n. rw (page_sound (h i b (λ q. n (same q)))) (or-true (eqb i j))) (same_or_not j i))
       where
-        same : some j ≡ some i → j ≡ i
+        same : Some j ≡ Some i → j ≡ i
         same q = cc

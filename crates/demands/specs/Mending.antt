@@ -1,10 +1,9 @@
 -- Recovery's steps (b) and (c), on an area whose R is blank: cut anywhere they go on with the stores that are left, and each store keeps
 -- every handle's last live entry. Assumes nothing.
-use Rattle.std.specs.Prelude.{◌≡◌, refl, ◌≢◌, Bool, true, false, cond, length}
+use Rattle.std.specs.Prelude.{◌≡◌, refl, ◌≢◌, Bool, true, false, cond, length, Option, Some}
 use Rattle.std.proofs.Common.{ap, sym, ◌∙◌, ⊎_elim, arith, eq-or-lt_of_le, le_of_suc-le-suc, length-append}
 use mathlib.Core.List.{List, [], ◌∷◌, ◌++◌, append_assoc, nil≢cons, head-eq_of_cons-eq, tail-eq_of_cons-eq}
 use Rattle.std.proofs.lemmas.Bool.{false≢true}
-use Rattle.std.proofs.Math.Option.{Option, some}
 use Prim.Native.Nat.{ℕ, suc, ◌+◌, ◌-◌, ◌≤◌, ◌<◌, zero-le}
 use Rattle.flash.specs.Stores.{blank, Store, put, apply, made, Step, ◌then◌, each}
 use Rattle.rules.specs.declared.Area.{Area}
@@ -76,7 +75,7 @@ module _ {a : Area} {j l : ℕ} {f g : List ℕ} {i : ℕ} {x : List ℕ} (m : M
       ap (last_live u) k ∙ last_skip u (up ++ placed at es) z down (dead_never u z q) ∙ ap (last_live u) (sym l)
 
 -- ---- step (b)
-last_snoc : (es : List Entry) (x : Entry) → last_of (es ++ (x ∷ [])) ≡ some x
+last_snoc : (es : List Entry) (x : Entry) → last_of (es ++ (x ∷ [])) ≡ Some x
 last_snoc [] x = refl
 last_snoc (e ∷ []) x = refl
 last_snoc (e ∷ (c ∷ es)) x = last_snoc (c ∷ es) x
@@ -117,7 +116,7 @@ module _ (a : Area) (i : ℕ) (h : i < a.pages) where
   mend_sealed : (f : List ℕ) → kind a f i ≡ Sealed → mend a i f ≡ []
   mend_sealed f e = rw e
 
-  last_placed : (es : List Item) (x : Item) → last_of (placed (base a i + 2) (es ++ (x ∷ []))) ≡ some (entry_at (base a i + 2 + length (codes es)) x)
+  last_placed : (es : List Item) (x : Item) → last_of (placed (base a i + 2) (es ++ (x ∷ []))) ≡ Some (entry_at (base a i + 2 + length (codes es)) x)
   last_placed es x = rw (placed_append (base a i + 2) es (x ∷ [])) (last_snoc (placed (base a i + 2) es) (entry_at (base a i + 2 + length (codes es)) x))
 
   -- what is wanted of the first store

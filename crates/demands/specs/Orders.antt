@@ -1,16 +1,14 @@
 -- Demand 3: requests, each cut, recovered and asked again any number of times, leave an area that stands with all changes made, and their
 -- answers are right; on handles that all differ their order does not matter. Assumes nothing.
-use Rattle.std.specs.Prelude.{◌≡◌, refl, Bool, true, false, ◌≢◌, ℕ, ◌+◌, ◌≤◌, length, eqb}
+use Rattle.std.specs.Prelude.{◌≡◌, refl, Bool, true, false, ◌≢◌, ℕ, ◌+◌, ◌≤◌, length, eqb, None}
 use Rattle.std.proofs.Common.{ap, ap₂, sym, ◌∙◌, subst, zero-le, arith, eqb-true, le-leb}
 use Rattle.std.proofs.Math.Path.{fun_ext}
 use mathlib.Core.List.{List, Permᴰ}
-use Rattle.std.proofs.Math.Option.{none}
 use Rattle.std.proofs.Math.Logic.{Ne-symm}
 use Rattle.flash.specs.Stores.{Store, made}
 use Rattle.flash.specs.Laws.{first_all, first_nil}
 use Rattle.rules.specs.declared.Area.{Area}
-use Rattle.rules.specs.declared.Answer.{Answer}
-use Rattle.rules.specs.Refusals.{area_quota, list, outcome_of}
+use Rattle.rules.specs.Refusals.{area_quota, list, outcome_of, Answer}
 use Rattle.rules.specs.Lists.{Request, delete}
 use Rattle.demands.specs.Terms.{Proper, handle_in, data_in, new_words, Map, changed, changed_all, new_words_all, was_cut, run, Tried, untried, and_tried, Carried, uncut, CarriedAll, no_more, and_then, ProperAll, Others, AllDiffer, Fine, FineAll}
 use Rattle.demands.specs.Settled.{Stands}
@@ -18,7 +16,7 @@ use Rattle.demands.specs.Requests.{stands_as, uncut_list, Planned, stores, absen
 
 -- ---- changes of maps
 -- to give none to a handle that has none changes nothing
-changed_none : (r : Request) (m : Map) → data_in r ≡ none → m (handle_in r) ≡ none → (u : ℕ) → m u ≡ changed r m u
+changed_none : (r : Request) (m : Map) → data_in r ≡ None → m (handle_in r) ≡ None → (u : ℕ) → m u ≡ changed r m u
 changed_none r m d e u = go (eqb u (handle_in r)) refl
   where
     go : (b : Bool) → eqb u (handle_in r) ≡ b → m u ≡ changed r m u
@@ -82,7 +80,7 @@ list_stands : (a : Area) (r : Request) (k : Map) (n l : ℕ) (f : List ℕ) (ss 
 list_stands a r k n l f ss s h = rw (le-leb (length ss) l h, first_all l ss f h) (s, tt)
 
 -- a delete of what is not there makes its change by doing nothing
-absent_stands : (a : Area) (r : Request) (m : Map) (n : ℕ) (f : List ℕ) → Stands a m n f → r ≡ delete (handle_in r) → m (handle_in r) ≡ none
+absent_stands : (a : Area) (r : Request) (m : Map) (n : ℕ) (f : List ℕ) → Stands a m n f → r ≡ delete (handle_in r) → m (handle_in r) ≡ None
     → Stands a (changed r m) (n + new_words r) f
 absent_stands a r m n f s e d =
     let w = ap new_words e in

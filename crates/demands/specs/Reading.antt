@@ -1,11 +1,10 @@
 -- What a ready area holds is what reads, searches and the map give: every entry stands where it says, and places grow in area order.
 -- Assumes nothing.
 use Rattle.std.proofs.Math.Path.{◌≡◌, ap, sym, subst}
-use Rattle.std.specs.Prelude.{refl, Bool, true, false, not, ◌&&◌, ◌⊎◌, ltb, eqb}
+use Rattle.std.specs.Prelude.{refl, Bool, true, false, not, ◌&&◌, ◌⊎◌, ltb, eqb, Option, Some, None, Ok, Err, is_none}
 use Rattle.std.proofs.Common.{ap₂, ◌∙◌, true≢false, inl, inr, le_refl, le_trans, mod-eq_of_lt, take-append-drop, length-take-le}
 use mathlib.Core.List.{List, [], ◌∷◌, ◌++◌, append_assoc}
 use Rattle.std.proofs.Math.Bool.{and-false}
-use Rattle.std.proofs.Math.Option.{Option, some, none}
 use Prim.Native.Nat.{ℕ, suc, zero, ◌+◌, ◌^◌, ◌≤◌, ◌<◌}
 use native.Mathlib.Omega.{arith}
 use Rattle.std.proofs.Math.ListN.{length, get_or, take, drop, length-append}
@@ -15,12 +14,10 @@ use Rattle.std.proofs.lemmas.Nat.{and_mask}
 use borrow.Author.Tests.{ltb-true, lt-ltb, lt-leb, eqb-true, eq-eqb, not-true}
 use Rattle.rules.specs.declared.Area.{Area}
 use Rattle.rules.specs.declared.Refusal.TheVariants.{NotFound}
-use Rattle.rules.specs.declared.Reading.{Reading}
-use Rattle.rules.specs.declared.Yielded.{Yielded}
 use Rattle.rules.specs.Words.{header, special, is_live, seal}
 use Rattle.rules.specs.Walk.{Item, entry_length, codes, items}
 use Rattle.rules.specs.Areas.{base, page, Entry, placed, entries_from, entries, any_of, first_of, live_of, twice, find, data_of, map_of, ready}
-use Rattle.rules.specs.Refusals.{bad_handle, is_none, find_checks}
+use Rattle.rules.specs.Refusals.{bad_handle, reading_place, reading_words, find_checks, Reading, Yielded}
 use Rattle.rules.specs.Search.{place_of, data_length, read_of, next, bad_place, search_checks, search_of, wanted, is_at}
 use Rattle.rules.specs.Laws.{and_left, and_right, passed_checked, checked_passed}
 use Rattle.rules.specs.Places.{base_suc, length_page, page_in}
@@ -137,12 +134,12 @@ grow_entries {a} s x q = subst (λ (y : List Entry). Grow (base a 0) y (base a (
 -- ---- the first entry that passes a test
 -- where places grow, no entry that passes stands before it
 first_least : (t : Entry → Bool) {lo hi : ℕ} (pre : List Entry) (e : Entry) (suf : List Entry) → Grow lo (pre ++ e ∷ suf) hi → t e ≡ true
-    → (c : Entry) × (first_of t (pre ++ e ∷ suf) ≡ some c) × (c.place ≤ e.place)
+    → (c : Entry) × (first_of t (pre ++ e ∷ suf) ≡ Some c) × (c.place ≤ e.place)
 first_least t [] e suf g p = (e, rw p, le_refl e.place)
 first_least t (d ∷ pre) e suf (step l g) p = go (t d) refl (first_least t pre e suf g p)
   where
-    go : (b : Bool) → t d ≡ b → ((c : Entry) × (first_of t (pre ++ e ∷ suf) ≡ some c) × (c.place ≤ e.place))
-        → (c : Entry) × (first_of t (d ∷ (pre ++ e ∷ suf)) ≡ some c) × (c.place ≤ e.place)
+    go : (b : Bool) → t d ≡ b → ((c : Entry) × (first_of t (pre ++ e ∷ suf) ≡ Some c) × (c.place ≤ e.place))
+        → (c : Entry) × (first_of t (d ∷ (pre ++ e ∷ suf)) ≡ Some c) × (c.place ≤ e.place)
     go true r ih = let k = grow_behind pre e suf g in (d, rw r, omega arith)
     go false r ih = (ih.0, rw r ih.1, ih.2)
 
@@ -153,62 +150,67 @@ first_agree t s (c ∷ x) h =
     rw (h [] c x refl, first_agree t s x (λ pre e suf q. h (c ∷ pre) e suf (ap (λ (u : List Entry). c ∷ u) q)))
 
 -- ---- reads
-find_stands : {a : Area} {f : List ℕ} (h : ℕ) (e : Entry) → Settled a f → find h (entries a f) ≡ some e → StandsAt f e.place h e.words
+find_stands : {a : Area} {f : List ℕ} (h : ℕ) (e : Entry) → Settled a f → find h (entries a f) ≡ Some e → StandsAt f e.place h e.words
 find_stands {a} {f} h e s q =
     let r = find_some h (entries a f) e q in
     subst (λ (u : ℕ). StandsAt f e.place u e.words) r.3 (stands s r.0 e r.1 r.2)
 
 -- the entry of a read that is answered
-read_finds : {a : Area} {f : List ℕ} (h p n : ℕ) → Usable a f → read_of a h f ≡ Reading.At p n
-    → (e : Entry) × (find h (entries a f) ≡ some e) × (e.place ≡ p) × (length e.words ≡ n) × (ready a f ≡ true)
+read_finds : {a : Area} {f : List ℕ} (h p n : ℕ) → Usable a f → read_of a h f ≡ Ok (record { place = p; words = n })
+    → (e : Entry) × (find h (entries a f) ≡ Some e) × (e.place ≡ p) × (length e.words ≡ n) × (ready a f ≡ true)
 read_finds {a} {f} h p n g q =
-    let c = checked_passed Reading.Refused (find_checks a f h) _ (Reading.At p n) (λ m z. let y : ◌≡◌ {A = ℕ} 0 1 = cc in omega arith) q in
+    let c = checked_passed Err (find_checks a f h) _ (Ok (record { place = p; words = n })) (λ m z. let y : ◌≡◌ {A = ℕ} 0 1 = cc in omega arith) q in
     let k = c.0.1 in
     let e = found_some (find h (entries a f)) k.1.1.1.0 in
-    let z : Reading.At e.0.place (length e.0.words) ≡ Reading.At p n = ap (λ (o : Option Entry). Reading.At (place_of o) (data_length o)) (sym e.1) ∙ c.1 in
-    (e.0, e.1, cc, cc, passed_ready a f k.0 k.1.0)
+    (
+      e.0,
+      e.1,
+      ap place_of (sym e.1) ∙ ap reading_place c.1,
+      ap data_length (sym e.1) ∙ ap reading_words c.1,
+      passed_ready a f k.0 k.1.0,
+    )
 
 -- a handle that is found is a legal one
-found_legal : (a : Area) (f : List ℕ) (h : ℕ) (e : Entry) → find h (entries a f) ≡ some e → bad_handle h ≡ false
+found_legal : (a : Area) (f : List ℕ) (h : ℕ) (e : Entry) → find h (entries a f) ≡ Some e → bad_handle h ≡ false
 found_legal a f h e q =
     let r = find_some h (entries a f) e q in
     let l : h < special = subst (λ (u : ℕ). u < special) r.3 (small_handle a f r.0 e r.1 r.2) in
     rw (not-true (eqb h 0) r.4, lt-leb special h l)
 
 -- what the map holds is read where it stands, and what it does not hold is not found
-pub read_held : {a : Area} {f : List ℕ} (h : ℕ) (d : List ℕ) → Usable a f → ready a f ≡ true → map_of a f h ≡ some d
-    → (p : ℕ) × (read_of a h f ≡ Reading.At p (length d)) × StandsAt f p h d
+pub read_held : {a : Area} {f : List ℕ} (h : ℕ) (d : List ℕ) → Usable a f → ready a f ≡ true → map_of a f h ≡ Some d
+    → (p : ℕ) × (read_of a h f ≡ Ok (record { place = p; words = length d })) × StandsAt f p h d
 unfolding map_of
 read_held {a} {f} h d g r m =
     let t = data_some (find h (entries a f)) d m in
     let b = found_legal a f h t.0 t.1 in (
       t.0.place,
-      passed_checked Reading.Refused (find_checks a f h) _ (g.right, (ready_sound a f g r, (ready_passed a f r, (b, (ap is_none t.1, tt)))))
-          ∙ ap (λ (u : Option Entry). Reading.At (place_of u) (data_length u)) t.1
-          ∙ ap (λ (u : List ℕ). Reading.At t.0.place (length u)) t.2,
+      passed_checked Err (find_checks a f h) _ (g.right, (ready_sound a f g r, (ready_passed a f r, (b, (ap is_none t.1, tt)))))
+          ∙ ap (λ (u : Option Entry). Ok (record { place = place_of u; words = data_length u })) t.1
+          ∙ ap (λ (u : List ℕ). Ok (record { place = t.0.place; words = length u })) t.2,
       subst (λ (u : List ℕ). StandsAt f t.0.place h u) t.2 (find_stands h t.0 (ready_settled g r).0 t.1),
     )
 
-pub read_absent : {a : Area} {f : List ℕ} (h : ℕ) → Usable a f → ready a f ≡ true → bad_handle h ≡ false → map_of a f h ≡ none → read_of a h f ≡ Reading.Refused NotFound
+pub read_absent : {a : Area} {f : List ℕ} (h : ℕ) → Usable a f → ready a f ≡ true → bad_handle h ≡ false → map_of a f h ≡ None → read_of a h f ≡ Err NotFound
 unfolding map_of
 read_absent {a} {f} h g r b m = rw (g.right, ready_sound a f g r, ready_passed a f r, b, data_none (find h (entries a f)) m)
 
 -- and back
-pub held_read : {a : Area} {f : List ℕ} (h p n : ℕ) → Usable a f → read_of a h f ≡ Reading.At p n
-    → (map_of a f h ≡ some (take n (drop (suc p) f))) × StandsAt f p h (take n (drop (suc p) f))
+pub held_read : {a : Area} {f : List ℕ} (h p n : ℕ) → Usable a f → read_of a h f ≡ Ok (record { place = p; words = n })
+    → (map_of a f h ≡ Some (take n (drop (suc p) f))) × StandsAt f p h (take n (drop (suc p) f))
 unfolding map_of
 held_read {a} {f} h p n g q =
     let r = read_finds h p n g q in
     let s = find_stands h r.0 (ready_settled g r.4).0 r.1 in
     let w : r.0.words ≡ take n (drop (suc p) f) = sym s.words ∙ ap₂ (λ (k u : ℕ). take k (drop (suc u) f)) r.3 r.2 in (
-      ap data_of r.1 ∙ ap some w,
+      ap data_of r.1 ∙ ap Some w,
       subst (λ (u : ℕ). StandsAt f u h (take n (drop (suc p) f))) r.2 (subst (λ (u : List ℕ). StandsAt f r.0.place h u) w s),
     )
 
 -- ---- searches
 -- where no handle is live twice, a live entry is the map's
 live_map : (a : Area) (f : List ℕ) (pre : List Entry) (e : Entry) (suf : List Entry) → entries a f ≡ pre ++ e ∷ suf → twice (entries a f) ≡ false
-    → is_live e.handle ≡ true → map_of a f e.handle ≡ some e.words
+    → is_live e.handle ≡ true → map_of a f e.handle ≡ Some e.words
 unfolding map_of
 live_map a f pre e suf q t l =
     rw q (look_add e.handle pre e suf l (once_apart pre e suf (rw q at t)) ∙ rw (eq-eqb e.handle e.handle refl))
@@ -231,25 +233,25 @@ place_entry a f p q = go (eqb p 0) refl (any_of (is_at p) (entries a f)) refl
     go false x false y = absurd (true≢false (rw (x, y) at q))
 
 module _ {a : Area} {f : List ℕ} (mask pattern place : ℕ) where
-  pub searched : (c : Entry) → Usable a f → ready a f ≡ true → bad_place a f place ≡ false → next a f mask pattern place ≡ some c
-      → search_of a mask pattern place f ≡ Yielded.At c.place
+  pub searched : (c : Entry) → Usable a f → ready a f ≡ true → bad_place a f place ≡ false → next a f mask pattern place ≡ Some c
+      → search_of a mask pattern place f ≡ Ok c.place
   searched c g r b q =
-      passed_checked Yielded.Refused (search_checks a f mask pattern place) _ (g.right, (ready_sound a f g r, (ready_passed a f r, (b, (ap is_none q, tt)))))
-      ∙ ap (λ (u : Option Entry). Yielded.At (place_of u)) q
+      passed_checked Err (search_checks a f mask pattern place) _ (g.right, (ready_sound a f g r, (ready_passed a f r, (b, (ap is_none q, tt)))))
+      ∙ ap (λ (u : Option Entry). Ok (place_of u)) q
 
   -- what it yields is a match behind the place, and the map's
-  pub search_yields : (q : ℕ) → Usable a f → search_of a mask pattern place f ≡ Yielded.At q
-      → (h : ℕ) × (d : List ℕ) × (place < q) × StandsAt f q h d × (map_of a f h ≡ some d) × (is_live h ≡ true) × (eqb (bit_and h mask) (bit_and pattern mask) ≡ true)
+  pub search_yields : (q : ℕ) → Usable a f → search_of a mask pattern place f ≡ Ok q
+      → (h : ℕ) × (d : List ℕ) × (place < q) × StandsAt f q h d × (map_of a f h ≡ Some d) × (is_live h ≡ true) × (eqb (bit_and h mask) (bit_and pattern mask) ≡ true)
       × (bad_place a f q ≡ false)
   unfolding next
   search_yields q g y =
-      let c = checked_passed Yielded.Refused (search_checks a f mask pattern place) _ (Yielded.At q) (λ m z. let y : ◌≡◌ {A = ℕ} 0 1 = cc in omega arith) y in
+      let c = checked_passed Err (search_checks a f mask pattern place) _ (Ok q) (λ m z. let y : ◌≡◌ {A = ℕ} 0 1 = cc in omega arith) y in
       let k = c.0.1 in
       let s = ready_settled g (passed_ready a f k.0 k.1.0) in
       let o = found_some (next a f mask pattern place) k.1.1.1.0 in
       let e = o.0 in
       let r = first_some (wanted mask pattern place) (entries a f) e o.1 in
-      let z : Yielded.At e.place ≡ Yielded.At q = ap (λ (u : Option Entry). Yielded.At (place_of u)) (sym o.1) ∙ c.1 in
+      let z : Ok e.place ≡ Ok q = ap (λ (u : Option Entry). Ok (place_of u)) (sym o.1) ∙ c.1 in
       let p : e.place ≡ q = cc in
       let b = ltb-true place e.place (and_left (ltb place e.place) _ r.3) in
       let m = and_right (ltb place e.place) _ r.3 in
@@ -265,13 +267,13 @@ module _ {a : Area} {f : List ℕ} (mask pattern place : ℕ) where
       )
 
   next_least : Settled a f → (pre : List Entry) (e : Entry) (suf : List Entry) → entries a f ≡ pre ++ e ∷ suf → wanted mask pattern place e ≡ true
-      → (c : Entry) × (next a f mask pattern place ≡ some c) × (c.place ≤ e.place)
+      → (c : Entry) × (next a f mask pattern place ≡ Some c) × (c.place ≤ e.place)
   unfolding next
   next_least s pre e suf q t = rw q (first_least (wanted mask pattern place) pre e suf (grow_entries s (pre ++ e ∷ suf) q) t)
 
   -- and no match behind the place stands before it
-  pub search_skips_none : (h p n : ℕ) → Usable a f → bad_place a f place ≡ false → read_of a h f ≡ Reading.At p n
-      → eqb (bit_and h mask) (bit_and pattern mask) ≡ true → place < p → (q : ℕ) × (search_of a mask pattern place f ≡ Yielded.At q) × (q ≤ p)
+  pub search_skips_none : (h p n : ℕ) → Usable a f → bad_place a f place ≡ false → read_of a h f ≡ Ok (record { place = p; words = n })
+      → eqb (bit_and h mask) (bit_and pattern mask) ≡ true → place < p → (q : ℕ) × (search_of a mask pattern place f ≡ Ok q) × (q ≤ p)
   search_skips_none h p n g b q m l =
       let r = read_finds h p n g q in
       let i = find_some h (entries a f) r.0 r.1 in
@@ -295,10 +297,10 @@ next_find a f h l = first_agree (wanted 0xFFFF h 0) (live_of h) (entries a f) sa
     same pre e suf q =
         rw (lt-ltb 0 e.place (place_some a f pre e suf q), masked e.handle (small_handle a f pre e suf q), masked h l) (go e (eqb e.handle h) refl)
 
-pub search_read : {a : Area} {f : List ℕ} (h p n : ℕ) → Usable a f → read_of a h f ≡ Reading.At p n → search_of a 0xFFFF h 0 f ≡ Yielded.At p
+pub search_read : {a : Area} {f : List ℕ} (h p n : ℕ) → Usable a f → read_of a h f ≡ Ok (record { place = p; words = n }) → search_of a 0xFFFF h 0 f ≡ Ok p
 unfolding bad_place
 search_read {a} {f} h p n g q =
     let r = read_finds h p n g q in
     let i = find_some h (entries a f) r.0 r.1 in
     let l : h < special = subst (λ (u : ℕ). u < special) i.3 (small_handle a f i.0 r.0 i.1 i.2) in
-    searched 0xFFFF h 0 r.0 g r.4 refl (next_find a f h l ∙ r.1) ∙ ap Yielded.At r.2
+    searched 0xFFFF h 0 r.0 g r.4 refl (next_find a f h l ∙ r.1) ∙ ap Ok r.2

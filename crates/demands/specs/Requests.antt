@@ -1,10 +1,9 @@
 -- Writes and deletes as they are asked for: every list of stores that a plan gives is fair, makes the change that was asked, and cut
 -- anywhere is recovered to the map from before or to the map from after; and the two facts that demand 3 follows from. Assumes nothing.
-use Rattle.std.specs.Prelude.{◌≡◌, refl, ◌≢◌, List, [], ◌∷◌, ◌++◌, Bool, true, false, cond, not, ◌&&◌, ℕ, suc, zero, ◌+◌, ◌-◌, ◌*◌, ◌≤◌, ◌<◌, length, leb, ltb, eqb}
+use Rattle.std.specs.Prelude.{◌≡◌, refl, ◌≢◌, List, [], ◌∷◌, ◌++◌, Bool, true, false, cond, not, ◌&&◌, ℕ, suc, zero, ◌+◌, ◌-◌, ◌*◌, ◌≤◌, ◌<◌, length, leb, ltb, eqb, Option, Some, None, is_none}
 use Rattle.std.proofs.Common.{ap, sym, ◌∙◌, subst, ⊎_elim, inl, true≢false, arith, length-append, lt-ltb, eqb-true, eq-eqb, ne_eqb, leb-false, ltb-false, le-ltb}
 use Rattle.std.proofs.Math.Bool.{and-false}
 use Rattle.std.proofs.lemmas.Bool.{false≢true, eqb-false, lt-leb}
-use Rattle.std.proofs.Math.Option.{Option, some, none}
 use Rattle.flash.specs.Stores.{Words, Store, apply, made, made_first, ◌then◌}
 use Rattle.flash.specs.Laws.{le_or_lt, first_none, first_all, first_nil, first_then}
 use Rattle.rules.specs.declared.Area.{Area}
@@ -13,7 +12,7 @@ use Rattle.rules.specs.declared.Refusal.TheVariants.{NotFound, NoRoom, BadHandle
 use Rattle.rules.specs.Words.{special, is_live, last_seal}
 use Rattle.rules.specs.Walk.{entry_length, stop}
 use Rattle.rules.specs.Areas.{page, Entry, page_entries, entries, twice, find, data_of, map_of, live_words, ready}
-use Rattle.rules.specs.Refusals.{checked, bad_handle, bad_length, is_none, same_words, is_data, holds, area_quota, no_room, recover_checks, write_checks, find_checks, Plan, refuse, list, outcome_of}
+use Rattle.rules.specs.Refusals.{checked, bad_handle, bad_length, same_words, is_data, holds, area_quota, no_room, recover_checks, write_checks, find_checks, Plan, refuse, list, outcome_of}
 use Rattle.rules.specs.Lists.{bare, bare_if, delete_list, delete_plan, compact, room_page, compact_page, append, append_compacted, append_to, write_list, write_plan, recover_list, recover_plan, Request, format, recover, write, delete, plan_of}
 use Rattle.rules.specs.Laws.{and_left, and_right, nor_left, nor_right, Passed, passed_checked, checked_passed}
 use Rattle.demands.specs.Terms.{Fair, fair_end, append_stores, WriteStores, held, appended, compacted, Change, Proper, handle_in, new_words, Map, changed, was_cut, run, recovered, Recovers, whole, then_again}
@@ -61,15 +60,15 @@ words_same : (x : List ℕ) → same_words x x ≡ true
 words_same [] = refl
 words_same (x ∷ xs) = rw (eq-eqb x x refl) (words_same xs)
 
-is_data_true : (o : Option (List ℕ)) (d : List ℕ) → is_data o d ≡ true → o ≡ some d
-is_data_true none d e = absurd (false≢true e)
-is_data_true (some v) d e = ap some (same_words_true v d e)
+is_data_true : (o : Option (List ℕ)) (d : List ℕ) → is_data o d ≡ true → o ≡ Some d
+is_data_true None d e = absurd (false≢true e)
+is_data_true (Some v) d e = ap Some (same_words_true v d e)
 
-holds_map : (a : Area) (f : List ℕ) (h : ℕ) (d : List ℕ) → holds a f h d ≡ true → map_of a f h ≡ some d
+holds_map : (a : Area) (f : List ℕ) (h : ℕ) (d : List ℕ) → holds a f h d ≡ true → map_of a f h ≡ Some d
 unfolding holds
 holds_map a f h d e = is_data_true (map_of a f h) d e
 
-pub map_holds : (a : Area) (f : List ℕ) (h : ℕ) (d : List ℕ) → map_of a f h ≡ some d → holds a f h d ≡ true
+pub map_holds : (a : Area) (f : List ℕ) (h : ℕ) (d : List ℕ) → map_of a f h ≡ Some d → holds a f h d ≡ true
 unfolding holds
 map_holds a f h d e = rw e (words_same d)
 
@@ -85,7 +84,7 @@ pub room_left : (a : Area) (f : List ℕ) (h : ℕ) (d : List ℕ) → live_word
 unfolding no_room
 room_left a f h d l = rw (le-ltb (area_quota a) (live_words (entries a f) + entry_length d) l) (and-false (not (holds a f h d)))
 
-room_gone : (a : Area) (f : List ℕ) (h : ℕ) (d : List ℕ) → map_of a f h ≢ some d → area_quota a < live_words (entries a f) + entry_length d → no_room a f h d ≡ true
+room_gone : (a : Area) (f : List ℕ) (h : ℕ) (d : List ℕ) → map_of a f h ≢ Some d → area_quota a < live_words (entries a f) + entry_length d → no_room a f h d ≡ true
 unfolding no_room
 room_gone a f h d n l = go (holds a f h d) refl
   where
@@ -109,14 +108,14 @@ module _ {a : Area} {m : Map} {n : ℕ} {f : List ℕ} (s : Stands a m n f) (h :
   fitting g i l r = record { inside = l; live = legal_live h p.0; small = omega (arith, p.1); short = p.2; words = p.3; room = r }
 
   -- to a page that has the room
-  append_changes : (i : ℕ) → room_page a f (entry_length d) ≡ some i → Changes a m n m' n' f (append a h d i f)
+  append_changes : (i : ℕ) → room_page a f (entry_length d) ≡ Some i → Changes a m n m' n' f (append a h d i f)
   append_changes i e =
       let r = room_page_first a f (entry_length d) i e in
       let t = fitting f i r.0 r.1 in
       record { fair = append_fair s i h d t; stands = append_stands s i h d t; cut = append_cut s i h d t }
 
   -- to a page compacted
-  module _ (i : ℕ) (e : compact_page a f (entry_length d) ≡ some i) where
+  module _ (i : ℕ) (e : compact_page a f (entry_length d) ≡ Some i) where
     inside : i < a.pages
     inside = (compact_page_first a f (entry_length d) i e).0
 
@@ -164,20 +163,20 @@ module _ {a : Area} {m : Map} {n : ℕ} {f : List ℕ} (s : Stands a m n f) (h :
   -- the ways that a write can go
   data Way : List Store → Type 0 where
     nothing_to_do : holds a f h d ≡ true → Way []
-    to_room : holds a f h d ≡ false → (i : ℕ) → room_page a f (entry_length d) ≡ some i → Way (append a h d i f)
-    by_compaction : holds a f h d ≡ false → room_page a f (entry_length d) ≡ none → (i : ℕ) → compact_page a f (entry_length d) ≡ some i
+    to_room : holds a f h d ≡ false → (i : ℕ) → room_page a f (entry_length d) ≡ Some i → Way (append a h d i f)
+    by_compaction : holds a f h d ≡ false → room_page a f (entry_length d) ≡ None → (i : ℕ) → compact_page a f (entry_length d) ≡ Some i
         → Way ((compact a i then append a h d i) f)
 
   way : no_room a f h d ≡ false → Way (write_list a h d f)
   way q = go (holds a f h d) refl
     where
-      packing : holds a f h d ≡ false → room_page a f (entry_length d) ≡ none → (o : Option ℕ) → compact_page a f (entry_length d) ≡ o → Way (append_compacted a h d o f)
-      packing z r none e = let l = p.2 in absurd (compact_exists a f (entry_length d) (shape_of s.given) (omega arith) (quota_left a f h d q z) e)
-      packing z r (some i) e = by_compaction z r i e
+      packing : holds a f h d ≡ false → room_page a f (entry_length d) ≡ None → (o : Option ℕ) → compact_page a f (entry_length d) ≡ o → Way (append_compacted a h d o f)
+      packing z r None e = let l = p.2 in absurd (compact_exists a f (entry_length d) (shape_of s.given) (omega arith) (quota_left a f h d q z) e)
+      packing z r (Some i) e = by_compaction z r i e
 
       placing : holds a f h d ≡ false → (o : Option ℕ) → room_page a f (entry_length d) ≡ o → Way (append_to a h d o f)
-      placing z none e = packing z e (compact_page a f (entry_length d)) refl
-      placing z (some i) e = to_room z i e
+      placing z None e = packing z e (compact_page a f (entry_length d)) refl
+      placing z (Some i) e = to_room z i e
 
       go : (b : Bool) → holds a f h d ≡ b → Way (write_list a h d f)
       go true e = rw e (nothing_to_do e)
@@ -196,10 +195,10 @@ module _ {a : Area} {m : Map} {n : ℕ} {f : List ℕ} (s : Stands a m n f) (h :
   old_stores g t e = go (find h (entries a g)) (find h (entries a f)) (stands_look t h ∙ e ∙ sym (stands_look s h))
     where
       go : (x y : Option Entry) → data_of x ≡ data_of y → length d + 2 + length (bare_if x) ≡ length d + cond (is_none y) 2 3
-      go none none q = omega arith
-      go none (some y) q = absurd (let z : ◌≡◌ {A = ℕ} 0 1 = cc in omega arith)
-      go (some x) none q = absurd (let z : ◌≡◌ {A = ℕ} 0 1 = cc in omega arith)
-      go (some x) (some y) q = omega arith
+      go None None q = omega arith
+      go None (Some y) q = absurd (let z : ◌≡◌ {A = ℕ} 0 1 = cc in omega arith)
+      go (Some x) None q = absurd (let z : ◌≡◌ {A = ℕ} 0 1 = cc in omega arith)
+      go (Some x) (Some y) q = omega arith
 
   way_counts : (ss : List Store) → Way ss → WriteStores a f h d (length ss)
   way_counts ss (nothing_to_do e) = held e
@@ -227,7 +226,7 @@ module _ {a : Area} {m : Map} {n : ℕ} {f : List ℕ} (s : Stands a m n f) (h :
       let g = s.given in
       passed_checked refuse (write_checks a f h d) (list (write_list a h d f)) (g.right, (ready_sound a f g s.ready, (ready_passed a f s.ready, (legal_handle h p.0 p.1, (le-ltb 32 (length d) p.2, (q, tt))))))
 
-  pub write_refused : map_of a f h ≢ some d → area_quota a < live_words (entries a f) + entry_length d → write_plan a h d f ≡ refuse NoRoom
+  pub write_refused : map_of a f h ≢ Some d → area_quota a < live_words (entries a f) + entry_length d → write_plan a h d f ≡ refuse NoRoom
   write_refused c l =
       let g = s.given in
       rw (g.right, ready_sound a f g s.ready, ready_passed a f s.ready, legal_handle h p.0 p.1, le-ltb 32 (length d) p.2, room_gone a f h d c l)
@@ -243,11 +242,11 @@ module _ {a : Area} {m : Map} {n : ℕ} {f : List ℕ} (s : Stands a m n f) (h :
       let k = live_at p e y in (
         v.fair,
         stands_by (p ++ zeroed e ∷ y) v.settled v.entries (twice_skip p e y ∙ once_drop p e y o)
-            (λ u. look_drop u p e y o ∙ ap (λ (x : ℕ). cond (eqb u x) none (look u (p ++ e ∷ y))) mine ∙ ap (λ (x : List Entry). cond (eqb u h) none (look u x)) (sym is)
-            ∙ ap (λ (x : Option (List ℕ)). cond (eqb u h) none x) (stands_look s u)) (rw (live_skip p e y) (omega arith)),
+            (λ u. look_drop u p e y o ∙ ap (λ (x : ℕ). cond (eqb u x) None (look u (p ++ e ∷ y))) mine ∙ ap (λ (x : List Entry). cond (eqb u h) None (look u x)) (sym is)
+            ∙ ap (λ (x : Option (List ℕ)). cond (eqb u h) None x) (stands_look s u)) (rw (live_skip p e y) (omega arith)),
       )
 
-  delete_changes : (e : Entry) → find h (entries a f) ≡ some e → Changes a m n (changed (delete h) m) n f (bare e ∷ [])
+  delete_changes : (e : Entry) → find h (entries a f) ≡ Some e → Changes a m n (changed (delete h) m) n f (bare e ∷ [])
   delete_changes e q = record { fair = t.0; stands = t.1; cut = cut }
     where
       t : Fair a (bare e ∷ []) f × Stands a (changed (delete h) m) n (apply (bare e) f)
@@ -269,7 +268,7 @@ pub proper_of : (h : ℕ) (d : List ℕ) → bad_handle h ≡ false → bad_leng
 proper_of h d b l w = let k = handle_legal h b in (k.0, k.1, ltb-false 32 (length d) l, w)
 
 -- the store of a delete
-pub delete_list_bare : (a : Area) (f : List ℕ) (h : ℕ) (ss : List Store) → delete_plan a h f ≡ list ss → (e : Entry) × (find h (entries a f) ≡ some e) × (ss ≡ bare e ∷ [])
+pub delete_list_bare : (a : Area) (f : List ℕ) (h : ℕ) (ss : List Store) → delete_plan a h f ≡ list ss → (e : Entry) × (find h (entries a f) ≡ Some e) × (ss ≡ bare e ∷ [])
 delete_list_bare a f h ss e =
     let k = listed (find_checks a f h) (delete_list a h f) ss e in
     let w = found_some (find h (entries a f)) k.0.1.1.1.1.0 in
@@ -289,27 +288,27 @@ changes {a} {m} {n} {f} s (delete h) c ss e =
     rw z (subst (λ (u : List Store). Changes a m n (changed (delete h) m) n f u) (sym w.2) (delete_changes s h w.0 w.1))
 
 -- a delete of what the map has, and of what it has not
-pub delete_planned : {a : Area} {m : Map} {n : ℕ} {f : List ℕ} → Stands a m n f → (h : ℕ) → Proper (delete h) → (e : Entry) → find h (entries a f) ≡ some e → delete_plan a h f ≡ list (bare e ∷ [])
+pub delete_planned : {a : Area} {m : Map} {n : ℕ} {f : List ℕ} → Stands a m n f → (h : ℕ) → Proper (delete h) → (e : Entry) → find h (entries a f) ≡ Some e → delete_plan a h f ≡ list (bare e ∷ [])
 delete_planned {a} {f = f} s h p e q =
     let g = s.given in
     rw (g.right, ready_sound a f g s.ready, ready_passed a f s.ready, legal_handle h p.0 p.1, q)
 
-pub delete_refused : {a : Area} {m : Map} {n : ℕ} {f : List ℕ} → Stands a m n f → (h : ℕ) → Proper (delete h) → m h ≡ none → delete_plan a h f ≡ refuse NotFound
+pub delete_refused : {a : Area} {m : Map} {n : ℕ} {f : List ℕ} → Stands a m n f → (h : ℕ) → Proper (delete h) → m h ≡ None → delete_plan a h f ≡ refuse NotFound
 delete_refused {a} {f = f} s h p q =
     let g = s.given in
     let z = data_none (find h (entries a f)) (stands_look s h ∙ q) in
     rw (g.right, ready_sound a f g s.ready, ready_passed a f s.ready, legal_handle h p.0 p.1, z)
 
-pub delete_absent : {a : Area} {m : Map} {n : ℕ} {f : List ℕ} → Stands a m n f → (h : ℕ) → delete_plan a h f ≡ refuse NotFound → m h ≡ none
+pub delete_absent : {a : Area} {m : Map} {n : ℕ} {f : List ℕ} → Stands a m n f → (h : ℕ) → delete_plan a h f ≡ refuse NotFound → m h ≡ None
 delete_absent {a} {m} {f = f} s h e = go (bad_handle h) (find h (entries a f)) refl (rw (g.right, ready_sound a f g s.ready, ready_passed a f s.ready) at e)
   where
     g : Usable a f
     g = s.given
 
-    go : (b : Bool) (o : Option Entry) → find h (entries a f) ≡ o → cond b (refuse BadHandle) (cond (is_none o) (refuse NotFound) (list (bare_if o))) ≡ refuse NotFound → m h ≡ none
+    go : (b : Bool) (o : Option Entry) → find h (entries a f) ≡ o → cond b (refuse BadHandle) (cond (is_none o) (refuse NotFound) (list (bare_if o))) ≡ refuse NotFound → m h ≡ None
     go true o q z = absurd (let y : ◌≡◌ {A = ℕ} 0 1 = cc in omega arith)
-    go false none q z = sym (stands_look s h) ∙ rw q
-    go false (some c) q z = absurd (let y : ◌≡◌ {A = ℕ} 0 1 = cc in omega arith)
+    go false None q z = sym (stands_look s h) ∙ rw q
+    go false (Some c) q z = absurd (let y : ◌≡◌ {A = ℕ} 0 1 = cc in omega arith)
 
 -- a plan that lists stores was made on a ready area
 pub change_ready : (a : Area) (f : List ℕ) (r : Request) → Change r → (ss : List Store) → plan_of a r f ≡ list ss → ready a f ≡ true
@@ -351,7 +350,7 @@ recovers_ends {a} {f} {g} u (then_again k t) =
 -- delete of what is not there
 pub data Planned (a : Area) (r : Request) (m : Map) (n : ℕ) (f : List ℕ) : Type 0 where
   stores : (ss : List Store) → plan_of a r f ≡ list ss → Stands a (changed r m) (n + new_words r) (made ss f) → Planned a r m n f
-  absent : plan_of a r f ≡ refuse NotFound → r ≡ delete (handle_in r) → m (handle_in r) ≡ none → Planned a r m n f
+  absent : plan_of a r f ≡ refuse NotFound → r ≡ delete (handle_in r) → m (handle_in r) ≡ None → Planned a r m n f
 
 -- asked again when its change is made, a request does nothing: no stores, or NOTFOUND for a delete
 pub data Idle (a : Area) (r : Request) (g : List ℕ) : Type 0 where
@@ -374,15 +373,15 @@ module _ (a : Area) where
   plans (delete h) m n f p s q = go (find h (entries a f)) refl
     where
       go : (o : Option Entry) → find h (entries a f) ≡ o → Planned a (delete h) m n f
-      go none e = let z = sym (stands_look s h) ∙ ap data_of e in absent (delete_refused s h p z) refl z
-      go (some c) e =
+      go None e = let z = sym (stands_look s h) ∙ ap data_of e in absent (delete_refused s h p z) refl z
+      go (Some c) e =
           let t = delete_planned s h p c e in
           stores (bare c ∷ []) t (changes s (delete h) tt (bare c ∷ []) t).stands
 
   -- asked again, a write that has been made has nothing to do
   write_again : (h : ℕ) (d : List ℕ) (m : Map) {n : ℕ} (g : List ℕ) → Proper (write h d) → Stands a (changed (write h d) m) n g → write_plan a h d g ≡ list []
   write_again h d m g p t =
-      let k : map_of a g h ≡ some d = t.map h ∙ rw (eq-eqb h h refl) in
+      let k : map_of a g h ≡ Some d = t.map h ∙ rw (eq-eqb h h refl) in
       let e = map_holds a g h d k in
       write_planned t h d p (room_held a g h d e) ∙ rw e
 

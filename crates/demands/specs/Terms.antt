@@ -1,17 +1,16 @@
 -- The words in which the demands are stated. Definitions alone. Assumes nothing.
-use Rattle.std.specs.Prelude.{◌≡◌, List, [], ◌∷◌, ◌++◌, Bool, true, false, cond, ◌≢◌, ◌⊎◌, ℕ, suc, zero, ◌+◌, ◌-◌, ◌*◌, ◌≤◌, ◌<◌, length, get_or, take, drop, replicate, eqb}
-use Rattle.std.proofs.Math.Option.{Option, some, none}
+use Rattle.std.specs.Prelude.{◌≡◌, List, [], ◌∷◌, ◌++◌, Bool, true, false, cond, ◌≢◌, ◌⊎◌, ℕ, suc, zero, ◌+◌, ◌-◌, ◌*◌, ◌≤◌, ◌<◌, length, get_or, take, drop, replicate, eqb, Option, Some, None, Ok, Err, is_none}
 use Rattle.std.specs.Int.Bits.{bit_and}
 use Rattle.flash.specs.Stores.{Words, Store, put, stored, apply, made}
 use Rattle.rules.specs.declared.Area.{Area}
-use Rattle.rules.specs.declared.Answer.{Answer}
 use Rattle.rules.specs.declared.Refusal.TheVariants.{NotFound}
 use Rattle.rules.specs.declared.Kind.{Kind}
 use Rattle.rules.specs.declared.Kind.TheVariants.{Sealed, Torn, Neither}
 use Rattle.rules.specs.Walk.{Item, entry_length, items}
 use Rattle.rules.specs.Areas.{R, base, page, kind, recovery, names, Entry, placed, page_entries, entries, any_of, live_of, find, map_of, live_words, ready}
-use Rattle.rules.specs.Refusals.{is_none, holds, Outcome, outcome}
+use Rattle.rules.specs.Refusals.{holds, Outcome, outcome, Answer}
 use Rattle.rules.specs.Lists.{erase, room_page, compact_page, recover_list, Request, format, recover, write, delete, plan_of}
+use Rattle.rules.specs.declared.Made.{Made}
 
 -- a flash of 32-bit words, and an area on it of N pages, 1 to 255, in one of the three sizes, with R behind them
 pub record Given (a : Area) (f : List ℕ) : Type 0 where
@@ -37,8 +36,8 @@ append_stores a f h d = length d + cond (is_none (find h (entries a f))) 2 3
 
 pub data WriteStores (a : Area) (f : List ℕ) (h : ℕ) (d : List ℕ) : ℕ → Type 0 where
   held : holds a f h d ≡ true → WriteStores a f h d 0
-  appended : holds a f h d ≡ false → (i : ℕ) → room_page a f (entry_length d) ≡ some i → WriteStores a f h d (append_stores a f h d)
-  compacted : holds a f h d ≡ false → room_page a f (entry_length d) ≡ none → (i : ℕ) → compact_page a f (entry_length d) ≡ some i
+  appended : holds a f h d ≡ false → (i : ℕ) → room_page a f (entry_length d) ≡ Some i → WriteStores a f h d (append_stores a f h d)
+  compacted : holds a f h d ≡ false → room_page a f (entry_length d) ≡ None → (i : ℕ) → compact_page a f (entry_length d) ≡ Some i
       → WriteStores a f h d (2 * live_words (page_entries a f i) + 8 + append_stores a f h d)
 
 -- ---- requests and maps
@@ -71,10 +70,10 @@ handle_in (write h d) = h
 handle_in (delete h) = h
 
 abbrev pub data_in : Request → Option (List ℕ)
-data_in format = none
-data_in recover = none
-data_in (write h d) = some d
-data_in (delete h) = none
+data_in format = None
+data_in recover = None
+data_in (write h d) = Some d
+data_in (delete h) = None
 
 abbrev pub new_words : Request → ℕ
 new_words format = 0
@@ -109,9 +108,9 @@ pub record Holds (a : Area) (f : List ℕ) (m : Map) : Type 0 where
 
 -- ---- power cuts
 abbrev pub was_cut : Answer → Bool
-was_cut (Answer.Done s) = false
-was_cut (Answer.Cut s) = true
-was_cut (Answer.Refused n) = false
+was_cut (Ok (Made.Done s)) = false
+was_cut (Ok (Made.Cut s)) = true
+was_cut (Err n) = false
 
 -- the flash after all of a recovery
 abbrev pub recovered : Area → List ℕ → List ℕ
@@ -158,9 +157,9 @@ AllDiffer (r ∷ rs) = Others (handle_in r) rs × AllDiffer rs
 
 -- DONE; or NOTFOUND, for a delete
 abbrev pub Fine : Request → Answer → Type 0
-Fine r (Answer.Done s) = Unit {0}
-Fine r (Answer.Cut s) = ⊥
-Fine r (Answer.Refused n) = (n ≡ NotFound) × (r ≡ delete (handle_in r))
+Fine r (Ok (Made.Done s)) = Unit {0}
+Fine r (Ok (Made.Cut s)) = ⊥
+Fine r (Err n) = (n ≡ NotFound) × (r ≡ delete (handle_in r))
 
 abbrev pub FineAll : List Request → List Answer → Type 0
 FineAll [] [] = Unit {0}
@@ -197,8 +196,8 @@ pub data PageIs (n i : ℕ) (p : List ℕ) : Type 0 where
 
 -- R: free or unfinished, as long as its word 1 is blank; or committed, a sealed page of an index that it names
 pub data RIs (n : ℕ) (r : List ℕ) : Option ℕ → Type 0 where
-  open_page : get_or r 1 0 ≡ 0xFFFFFFFF → RIs n r none
-  committed_page : {i : ℕ} → i < n → (es : List Item) (m : ℕ) → Goods es → r ≡ layout n i es 0x7FFFFFFF m → RIs n r (some i)
+  open_page : get_or r 1 0 ≡ 0xFFFFFFFF → RIs n r None
+  committed_page : {i : ℕ} → i < n → (es : List Item) (m : ℕ) → Goods es → r ≡ layout n i es 0x7FFFFFFF m → RIs n r (Some i)
 
 -- the entries es i, es (i + 1), .. of n pages, each at its place
 abbrev pub laid : Area → (ℕ → List Item) → ℕ → ℕ → List Entry
@@ -213,8 +212,8 @@ pub record StandsAt (f : List ℕ) (p h : ℕ) (d : List ℕ) : Type 0 where
 
 -- the last live entry of a handle, in area order
 abbrev pub last_live : ℕ → List Entry → Option Entry
-last_live h [] = none
-last_live h (e ∷ es) = cond (any_of (live_of h) es) (last_live h es) (cond (live_of h e) (some e) none)
+last_live h [] = None
+last_live h (e ∷ es) = cond (any_of (live_of h) es) (last_live h es) (cond (live_of h e) (Some e) None)
 
 -- ---- what a recovery is to keep
 abbrev pub but_last : List Item → List Item

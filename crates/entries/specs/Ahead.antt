@@ -1,10 +1,9 @@
 -- The area's entries from a cursor on, where entries lie in the run, and what a loop over them has come to: definitions and laws.
 -- Assumes nothing.
-use Rattle.std.specs.Prelude.{◌≡◌, refl, Bool, true, false, cond, not, get_or, take, drop}
+use Rattle.std.specs.Prelude.{◌≡◌, refl, Bool, true, false, cond, not, get_or, take, drop, Option, Some, None, is_none, is_some}
 use Rattle.std.proofs.Math.Path.{sym, ap}
 use Rattle.std.proofs.Common.{subst, ◌∙◌, ⊎_elim, take-take, get_or-take, eq-eqb, ne_eqb}
 use mathlib.Core.List.{List, [], ◌∷◌, ◌++◌}
-use Rattle.std.proofs.Math.Option.{Option, some, none}
 use Prim.Native.Nat.{ℕ, suc, zero, ◌+◌, ◌-◌, ◌≤◌, ◌<◌}
 use native.Mathlib.Omega.{arith}
 use Rattle.std.proofs.Math.ListN.{length, length-take, length-drop}
@@ -14,24 +13,24 @@ use Rattle.rules.specs.declared.Area.{Area}
 use Rattle.rules.specs.Words.{handle_of}
 use Rattle.rules.specs.Walk.{walk_in, items}
 use Rattle.rules.specs.Areas.{base, Entry, placed, page_entries, entries_from, entries, any_of, first_of, live_of, find}
-use Rattle.rules.specs.Refusals.{is_none}
 use Rattle.rules.specs.Places.{Right, base_suc, base_zero, page_from, base_in}
 use Rattle.pages.specs.Steps.{length_at, walk_at, entries_at, entry_at, length_inside, entries_on, entries_end}
+use Rattle.std.proofs.lemmas.Option.{same_Some}
 use Rattle.entries.specs.declared.Cursor.{Cursor}
-use Rattle.entries.specs.declared.Found.{Found}
+use Rattle.rules.specs.declared.Found.{Found}
 
 -- ---- what is found
-abbrev pub found_of : Option Entry → Found
-found_of none = Found.None
-found_of (some e) = Found.At e.place (length e.words)
+abbrev pub found_of : Option Entry → Option Found
+found_of None = None
+found_of (Some e) = Some (record { place = e.place; words = length e.words })
 
-pub found_none : {r : Found} (o : Option Entry) → r ≡ found_of o → r ≡ Found.None → o ≡ none
-found_none none e q = refl
-found_none (some d) e q = absurd (let z : ◌≡◌ {A = ℕ} 0 1 = cc in let y : ⊥ = omega arith in y)
+pub found_none : {r : Option Found} (o : Option Entry) → r ≡ found_of o → r ≡ None → o ≡ None
+found_none None e q = refl
+found_none (Some d) e q = absurd (let z : ◌≡◌ {A = ℕ} 0 1 = cc in let y : ⊥ = omega arith in y)
 
-pub found_some : {r : Found} {p n : ℕ} (o : Option Entry) → r ≡ found_of o → r ≡ Found.At p n → (d : Entry) × (o ≡ some d) × (d.place ≡ p) × (length d.words ≡ n)
-found_some none e q = absurd (let z : ◌≡◌ {A = ℕ} 0 1 = cc in let y : ⊥ = omega arith in y)
-found_some (some d) e q = (d, refl, cc, cc)
+pub found_some : {r : Option Found} {x : Found} (o : Option Entry) → r ≡ found_of o → r ≡ Some x → (d : Entry) × (o ≡ Some d) × (d.place ≡ x.place) × (length d.words ≡ x.words)
+found_some None e q = absurd (let z : ◌≡◌ {A = ℕ} 0 1 = cc in let y : ⊥ = omega arith in y)
+found_some (Some d) e q = let z = same_Some _ _ (sym e ∙ q) in (d, refl, ap (λ (x : Found). x.place) z, ap (λ (x : Found). x.words) z)
 
 -- ---- cursors
 -- the entries from a place on, to the end of a page and of the pages behind it
@@ -126,11 +125,11 @@ inside_append : (f : List ℕ) (x y : List Entry) → AllInside f x → AllInsid
 inside_append f [] y i j = j
 inside_append f (e ∷ x) y i j = (i.0, inside_append f x y i.1 j)
 
-inside_first : {f : List ℕ} {e : Entry} (t : Entry → Bool) (es : List Entry) → AllInside f es → first_of t es ≡ some e → Inside f e
+inside_first : {f : List ℕ} {e : Entry} (t : Entry → Bool) (es : List Entry) → AllInside f es → first_of t es ≡ Some e → Inside f e
 inside_first t [] i q = absurd (let z : ◌≡◌ {A = ℕ} 0 1 = cc in let y : ⊥ = omega arith in y)
 inside_first {f} {e} t (d ∷ es) i q = go (t d) q (inside_first t es i.1)
   where
-    go : (b : Bool) → cond b (some d) (first_of t es) ≡ some e → (first_of t es ≡ some e → Inside f e) → Inside f e
+    go : (b : Bool) → cond b (Some d) (first_of t es) ≡ Some e → (first_of t es ≡ Some e → Inside f e) → Inside f e
     go true q ih = let z : d ≡ e = cc in rw z at i.0
     go false q ih = ih q
 
@@ -172,10 +171,10 @@ module _ {a : Area} {f : List ℕ} (r : Right a f) where
   all_inside = rw (first_onward r) at (inside_onward (a.pages - 1) 2 a.words (first_ends r))
 
 -- what is found lies inside the run
-pub first_inside : {a : Area} {f : List ℕ} {e : Entry} (t : Entry → Bool) → first_of t (entries a f) ≡ some e → Right a f → Inside f e
+pub first_inside : {a : Area} {f : List ℕ} {e : Entry} (t : Entry → Bool) → first_of t (entries a f) ≡ Some e → Right a f → Inside f e
 first_inside {a} {f} t q r = inside_first t (entries a f) (all_inside r) q
 
-pub found_inside : {a : Area} {f : List ℕ} {r : Found} {p n : ℕ} (t : Entry → Bool) → r ≡ found_of (first_of t (entries a f)) → r ≡ Found.At p n → Right a f → p + n < length f
+pub found_inside : {a : Area} {f : List ℕ} {r : Option Found} {x : Found} (t : Entry → Bool) → r ≡ found_of (first_of t (entries a f)) → r ≡ Some x → Right a f → x.place + x.words < length f
 found_inside {a} {f} t e q r =
     let s = found_some (first_of t (entries a f)) e q in
     let i = (first_inside t s.1 r).within in
@@ -262,24 +261,24 @@ finding_start {t} s = record { sound = s.sound; same = ap (first_of t) s.same }
 pub finding_here : {t : Entry → Bool} {a : Area} {f : List ℕ} {c : Cursor} → Sound a f c → Finding t a f (first_of t (ahead a f c)) c
 finding_here s = record { sound = s; same = refl }
 
-pub finding_end : {t : Entry → Bool} {a : Area} {f : List ℕ} {o : Option Entry} {c : Cursor} → Finding t a f o c → c.length ≡ 0 → none ≡ o
+pub finding_end : {t : Entry → Bool} {a : Area} {f : List ℕ} {o : Option Entry} {c : Cursor} → Finding t a f o c → c.length ≡ 0 → None ≡ o
 finding_end {t} s z = ap (first_of t) (sym (ahead_end s.sound z)) ∙ s.same
 
 module _ {t : Entry → Bool} {a : Area} {f : List ℕ} {o : Option Entry} {c : Cursor} (s : Finding t a f o c) (z : c.length ≡ 0 → ⊥) where
-  here : cond (t (entry_of f c)) (some (entry_of f c)) (first_of t (behind a f c)) ≡ o
+  here : cond (t (entry_of f c)) (Some (entry_of f c)) (first_of t (behind a f c)) ≡ o
   here = ap (first_of t) (sym (ahead_on s.sound z)) ∙ s.same
 
   pub finding_on : {d : Cursor} → Settled a f (behind a f c) d → t (entry_of f c) ≡ false → Finding t a f o d
   finding_on d q = record { sound = d.sound; same = ap (first_of t) d.same ∙ rw q at here }
 
-  pub finding_found : t (entry_of f c) ≡ true → some (entry_of f c) ≡ o
+  pub finding_found : t (entry_of f c) ≡ true → Some (entry_of f c) ≡ o
   finding_found q = rw q at here
 
-  pub found_at : t (entry_of f c) ≡ true → Found.At c.place (c.length - 1) ≡ found_of o
+  pub found_at : t (entry_of f c) ≡ true → Some (record { place = c.place; words = c.length - 1 }) ≡ found_of o
   unfolding entry_of
-  found_at q = ap (λ (n : ℕ). Found.At c.place n) (sym (entry_words s.sound z)) ∙ ap found_of (finding_found q)
+  found_at q = ap (λ (n : ℕ). Some (record { place = c.place; words = n })) (sym (entry_words s.sound z)) ∙ ap found_of (finding_found q)
 
-pub ends_none : {t : Entry → Bool} {a : Area} {f : List ℕ} {o : Option Entry} {c : Cursor} → Finding t a f o c → c.length ≡ 0 → Found.None ≡ found_of o
+pub ends_none : {t : Entry → Bool} {a : Area} {f : List ℕ} {o : Option Entry} {c : Cursor} → Finding t a f o c → c.length ≡ 0 → None ≡ found_of o
 ends_none s z = ap found_of (finding_end s z)
 
 -- whether an entry passes
@@ -291,12 +290,13 @@ any_first t (e ∷ es) = go (t e) refl (any_first t es)
     go true q r = rw q
     go false q r = rw q r
 
-module _ {r : Found} (k : ℕ) (es : List Entry) (e : r ≡ found_of (find k es)) where
-  pub any_some : {p n : ℕ} → r ≡ Found.At p n → true ≡ any_of (live_of k) es
-  any_some q = sym (any_first (live_of k) es ∙ ap (λ (o : Option Entry). not (is_none o)) (found_some (find k es) e q).1)
-
-  pub any_none : r ≡ Found.None → false ≡ any_of (live_of k) es
-  any_none q = sym (any_first (live_of k) es ∙ ap (λ (o : Option Entry). not (is_none o)) (found_none (find k es) e q))
+-- whether an entry was found
+pub found_any : {r : Option Found} (k : ℕ) (es : List Entry) → r ≡ found_of (find k es) → is_some r ≡ any_of (live_of k) es
+found_any k es e = rw e (go (find k es) ∙ sym (any_first (live_of k) es))
+  where
+    go : (o : Option Entry) → is_some (found_of o) ≡ not (is_none o)
+    go None = refl
+    go (Some e) = refl
 
 -- ---- the tests, by what is read at a cursor
 pub live_hit : {k : ℕ} (h : ℕ) (f : List ℕ) (c : Cursor) → (h ≡ 0 → ⊥) → k ≡ handle_of (get_or f c.place 0) → k ≡ h → live_of h (entry_of f c) ≡ true
@@ -308,13 +308,11 @@ unfolding entry_of
 live_miss {k} h f c z e q = rw (← e, ne_eqb h 0 z, ne_eqb k h q)
 
 -- an invalidated entry is none of its handle's live ones
-zero_none : (es : List Entry) → none ≡ find 0 es
+zero_none : (es : List Entry) → None ≡ find 0 es
 zero_none [] = refl
 zero_none (e ∷ es) = zero_none es
 
-pub find_dead : (h : ℕ) (es : List Entry) → h ≡ 0 → Found.None ≡ found_of (find h es)
+pub find_dead : (h : ℕ) (es : List Entry) → h ≡ 0 → None ≡ found_of (find h es)
 find_dead h es z = rw z (ap found_of (zero_none es))
 
 pub ruleset finds = (fewer, finding_start, finding_here, finding_on, found_at, ends_none, live_hit, live_miss, find_dead)
-
-pub ruleset lives = (any_some, any_none)

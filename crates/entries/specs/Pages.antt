@@ -1,11 +1,10 @@
 -- A walk that begins at the page that a place lies in: no entry of the pages before it lies at the place or behind it, and none ahead of a
 -- cursor lies in front of it. Laws. Assumes nothing.
-use Rattle.std.specs.Prelude.{◌≡◌, refl, Bool, true, false, not, ◌&&◌, length, take, ltb, eqb}
+use Rattle.std.specs.Prelude.{◌≡◌, refl, Bool, true, false, not, ◌&&◌, length, take, ltb, eqb, None}
 use Rattle.std.proofs.Common.{sym, ◌∙◌, true≢false, ⊎_elim, div-mul-le_self, length-take-le, Fits}
 use Rattle.std.proofs.Math.Path.{ap}
 use mathlib.Core.List.{List, [], ◌∷◌, ◌++◌}
 use Rattle.std.proofs.lemmas.Bool.{false≢true}
-use Rattle.std.proofs.Math.Option.{none}
 use Prim.Native.Nat.{ℕ, suc, zero, ◌+◌, ◌-◌, ◌*◌, ◌/◌, ◌≤◌, ◌<◌}
 use native.Mathlib.Omega.{arith}
 use borrow.Author.Tests.{ltb-true, lt-ltb, eq-eqb, ne_eqb}
@@ -55,7 +54,7 @@ above_append : (m : ℕ) (x y : List Entry) → AllAbove m x → AllAbove m y �
 above_append m [] y i j = j
 above_append m (e ∷ x) y i j = (i.0, above_append m x y i.1 j)
 
-above_none : (t : Entry → Bool) (m : ℕ) → ((e : Entry) → m ≤ e.place → t e ≡ false) → (es : List Entry) → AllAbove m es → first_of t es ≡ none
+above_none : (t : Entry → Bool) (m : ℕ) → ((e : Entry) → m ≤ e.place → t e ≡ false) → (es : List Entry) → AllAbove m es → first_of t es ≡ None
 above_none t m n [] b = refl
 above_none t m n (e ∷ es) b = let z : t e ≡ false = n e b.0 in rw z (above_none t m n es b.1)
 
@@ -90,7 +89,7 @@ module _ {a : Area} {f : List ℕ} (r : Right a f) (m : ℕ) where
       (rw s (above_onward l (end + 2) (end + a.words) (omega arith) (omega arith) n))
 
 -- so no entry ahead of a cursor lies in front of it
-pub ahead_none : {a : Area} {f : List ℕ} {c : Cursor} (t : Entry → Bool) → ((e : Entry) → c.place ≤ e.place → t e ≡ false) → Right a f → Sound a f c → (c.length ≡ 0 → ⊥) → first_of t (ahead a f c) ≡ none
+pub ahead_none : {a : Area} {f : List ℕ} {c : Cursor} (t : Entry → Bool) → ((e : Entry) → c.place ≤ e.place → t e ≡ false) → Right a f → Sound a f c → (c.length ≡ 0 → ⊥) → first_of t (ahead a f c) ≡ None
 ahead_none {a} {f} {c} t n r s z =
     let i = s.fits in
     above_none t c.place n (ahead a f c) (above_onward r c.place c.left c.place c.end (omega arith) (omega arith) s.ends)

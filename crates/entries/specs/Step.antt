@@ -1,10 +1,9 @@
 -- A step of a search by a filter: what it finds, and laws. Assumes nothing.
-use Rattle.std.specs.Prelude.{◌≡◌, Bool, cond, ◌&&◌, ◌||◌, ℕ, ◌≤◌, ◌<◌, get_or, ltb, eqb}
+use Rattle.std.specs.Prelude.{◌≡◌, Bool, cond, ◌&&◌, ◌||◌, ℕ, ◌≤◌, ◌<◌, get_or, ltb, eqb, Option, Some, None, Result, Ok, Err, is_none}
 use Rattle.std.proofs.Math.Path.{refl, ap}
 use Rattle.std.proofs.Common.{sym, ◌∙◌}
 use mathlib.Core.List.{List}
 use Rattle.std.proofs.Math.Bool.{true, false, not}
-use Rattle.std.proofs.Math.Option.{Option, some, none}
 use Rattle.std.proofs.Math.Logic.{⊎_elim}
 use native.Mathlib.Omega.{arith}
 use Rattle.std.specs.Int.Bits.{bit_and}
@@ -13,36 +12,21 @@ use Rattle.flash.specs.Laws.{le_or_lt}
 use Rattle.rules.specs.declared.Area.{Area}
 use Rattle.rules.specs.Words.{handle_of, is_live}
 use Rattle.rules.specs.Areas.{Entry, entries, any_of, first_of}
-use Rattle.rules.specs.Refusals.{is_none}
 use Rattle.rules.specs.Search.{wanted, next, is_at, bad_place}
 use Rattle.rules.specs.Places.{Right}
 use Rattle.entries.specs.declared.Cursor.{Cursor}
-use Rattle.entries.specs.declared.Stepped.{Stepped}
 use Rattle.entries.specs.Ahead.{ahead, behind, entry_of, ahead_end, ahead_on, any_first, Settled, Finding, fewer, finding_on, finding_found, finding_end}
 use Rattle.entries.specs.Pages.{Reached, reached_behind, ahead_none}
+use Rattle.rules.specs.declared.Refusal.{Refusal}
+use Rattle.rules.specs.declared.Refusal.TheVariants.{BadPlace, NotFound}
 
 -- ---- what is found, b being whether it cannot start
-abbrev match_of : Option Entry → Stepped
-match_of none = Stepped.None
-match_of (some e) = Stepped.At e.place
+abbrev pub match_of : Option Entry → Result ℕ Refusal
+match_of None = Err NotFound
+match_of (Some e) = Ok e.place
 
-abbrev pub stepped_of : Bool → Option Entry → Stepped
-stepped_of b o = cond b Stepped.BadPlace (match_of o)
-
-pub stepped_bad : {r : Stepped} (b : Bool) (o : Option Entry) → r ≡ stepped_of b o → r ≡ Stepped.BadPlace → b ≡ true
-stepped_bad true o e q = refl
-stepped_bad false none e q = absurd (let z : ◌≡◌ {A = ℕ} 0 1 = cc in let y : ⊥ = omega arith in y)
-stepped_bad false (some d) e q = absurd (let z : ◌≡◌ {A = ℕ} 0 1 = cc in let y : ⊥ = omega arith in y)
-
-pub stepped_none : {r : Stepped} (b : Bool) (o : Option Entry) → r ≡ stepped_of b o → r ≡ Stepped.None → (b ≡ false) × (o ≡ none)
-stepped_none true o e q = absurd (let z : ◌≡◌ {A = ℕ} 0 1 = cc in let y : ⊥ = omega arith in y)
-stepped_none false none e q = (refl, refl)
-stepped_none false (some d) e q = absurd (let z : ◌≡◌ {A = ℕ} 0 1 = cc in let y : ⊥ = omega arith in y)
-
-pub stepped_at : {r : Stepped} {p : ℕ} (b : Bool) (o : Option Entry) → r ≡ stepped_of b o → r ≡ Stepped.At p → (d : Entry) × (b ≡ false) × (o ≡ some d) × (d.place ≡ p)
-stepped_at true o e q = absurd (let z : ◌≡◌ {A = ℕ} 0 1 = cc in let y : ⊥ = omega arith in y)
-stepped_at false none e q = absurd (let z : ◌≡◌ {A = ℕ} 0 1 = cc in let y : ⊥ = omega arith in y)
-stepped_at false (some d) e q = (d, refl, refl, cc)
+abbrev pub stepped_of : Bool → Option Entry → Result ℕ Refusal
+stepped_of b o = cond b (Err BadPlace) (match_of o)
 
 -- ---- whether an entry begins at a place, by the first that does not lie in front of it
 module _ {a : Area} {f : List ℕ} {c : Cursor} {p : ℕ} (s : Reached a f p c) where
@@ -80,7 +64,7 @@ module _ {a : Area} {f : List ℕ} {c : Cursor} {p : ℕ} (s : Reached a f p c) 
       bad_by (ap (λ (es : List Entry). is_none (first_of (is_at p) es)) (ahead_end w z)) ∙ rw (eq-eqb c.length 0 z))
       (le_or_lt 1 c.length)
 
-  pub step_bad : (mask pattern : ℕ) → Right a f → not (eqb p 0) && (eqb c.length 0 || not (eqb c.place p)) ≡ true → Stepped.BadPlace ≡ stepped_of (bad_place a f p) (next a f mask pattern p)
+  pub step_bad : (mask pattern : ℕ) → Right a f → not (eqb p 0) && (eqb c.length 0 || not (eqb c.place p)) ≡ true → Err BadPlace ≡ stepped_of (bad_place a f p) (next a f mask pattern p)
   step_bad mask pattern r t = rw (bad_is r, t)
 
 -- ---- a step from a right place has come to a cursor
@@ -98,7 +82,7 @@ module _ {a : Area} {f : List ℕ} {mask pattern p : ℕ} {c : Cursor} (s : Step
   stepped_by : {o : Option Entry} → o ≡ next a f mask pattern p → match_of o ≡ stepped_of (bad_place a f p) (next a f mask pattern p)
   stepped_by e = rw s.right (ap match_of e)
 
-  pub step_none : c.length ≡ 0 → Stepped.None ≡ stepped_of (bad_place a f p) (next a f mask pattern p)
+  pub step_none : c.length ≡ 0 → Err NotFound ≡ stepped_of (bad_place a f p) (next a f mask pattern p)
   step_none z = stepped_by (finding_end s.finding z)
 
   -- the entry there, by its handle
@@ -107,7 +91,7 @@ module _ {a : Area} {f : List ℕ} {mask pattern p : ℕ} {c : Cursor} (s : Step
     unfolding entry_of
     wanted_is = rw (q, e)
 
-    pub step_at : ltb p c.place && b ≡ true → Stepped.At c.place ≡ stepped_of (bad_place a f p) (next a f mask pattern p)
+    pub step_at : ltb p c.place && b ≡ true → Ok c.place ≡ stepped_of (bad_place a f p) (next a f mask pattern p)
     unfolding entry_of
     step_at t = stepped_by (finding_found s.finding z (wanted_is ∙ t))
 

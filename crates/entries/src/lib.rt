@@ -19,23 +19,7 @@ ghost use Rattle.entries.specs.Ahead.{found_of, onward, ahead, behind, Ends, Sou
 
 pub mod doubles; // doubles.rt: handles that are live twice
 
-use rules::Area;
-
-// What is found of an entry: the place of its header in the run, and the number of its data words.
-#[derive(Clone, Copy)]
-pub enum Found {
-    At { place: usize, words: usize },
-    None,
-}
-
-// What a step of a search finds: the place of a match's header in the run, no match, or that it
-// cannot start where it should.
-#[derive(Clone, Copy)]
-pub enum Stepped {
-    At(usize),
-    None,
-    BadPlace,
-}
+use rules::{Area, Found, Refusal, Yielded};
 
 // A place that a walk over the area's entries has come to: an entry's header in the run, the
 // entry's length, where its page ends, and how many pages are left behind that one. Behind the last
@@ -108,25 +92,25 @@ pub fn after(flash: &[u32], area: Area, cursor: Cursor) -> Cursor
 }
 
 // The first live entry of a handle from a cursor on.
-fn find_from(flash: &[u32], area: Area, start: Cursor, handle: u32) -> Found
+fn find_from(flash: &[u32], area: Area, start: Cursor, handle: u32) -> Option<Found>
     requires { Right area flash.now × Sound area flash.now start }
     ensures { result ≡ found_of (find handle (ahead area flash.now start)) }
 {
     if handle == 0 {
-        return Found::None;
+        return None;
     }
     let mut cursor = start;
     while cursor.length != 0 {
         let place = cursor.place;
         if pages::handle_of(flash[place]) == handle {
-            return Found::At {
+            return Some(Found {
                 place,
                 words: cursor.length - 1,
-            };
+            });
         }
         cursor = after(flash, area, cursor);
     }
-    Found::None
+    None
 }
 
 // Whether a handle is live from a cursor on.
@@ -134,10 +118,7 @@ fn is_live_from(flash: &[u32], area: Area, start: Cursor, handle: u32) -> bool
     requires { Right area flash.now × Sound area flash.now start }
     ensures { result ≡ any_of (live_of handle) (ahead area flash.now start) }
 {
-    match find_from(flash, area, start, handle) {
-        Found::At { place: _, words: _ } => true,
-        Found::None => false,
-    }
+    find_from(flash, area, start, handle).is_some()
 }
 
 // A cursor from which on all entries are ahead that lie at a place or behind it: at the first entry
@@ -180,22 +161,22 @@ fn from_place(flash: &[u32], area: Area, place: usize) -> Cursor
 }
 
 // A step of a search: the next match behind a place, if the place is 0 or that of an entry's
-// header. It walks once: places grow in area order, so the first entry that does not lie in front of
+// header; BADPLACE if it is neither, NOTFOUND if there is no match. It walks once: places grow in area order, so the first entry that does not lie in front of
 // the place tells whether one begins there.
-pub fn step(flash: &[u32], area: Area, mask: u32, pattern: u32, start: usize) -> Stepped
+pub fn step(flash: &[u32], area: Area, mask: u32, pattern: u32, start: usize) -> Yielded
     requires { Right area flash.now }
     ensures { result ≡ stepped_of (bad_place area flash.now start) (next area flash.now mask pattern start) }
 {
     let mut cursor = from_place(flash, area, start);
     if (start != 0) & ((cursor.length == 0) | (cursor.place != start)) {
-        return Stepped::BadPlace;
+        return Err(Refusal::BadPlace);
     }
     while cursor.length != 0 {
         let place = cursor.place;
         if (start < place) & passes(pages::handle_of(flash[place]), mask, pattern) {
-            return Stepped::At(place);
+            return Ok(place);
         }
         cursor = after(flash, area, cursor);
     }
-    Stepped::None
+    Err(Refusal::NotFound)
 }

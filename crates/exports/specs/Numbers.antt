@@ -3,10 +3,7 @@ use Rattle.std.specs.Prelude.{◌≡◌, List, ℕ}
 use Rattle.std.proofs.Common.{ap, ◌∙◌}
 use Rattle.flash.specs.Laws.{settled}
 use Rattle.rules.specs.declared.Area.{Area}
-use Rattle.rules.specs.declared.Answer.{Answer}
-use Rattle.rules.specs.declared.Reading.{Reading}
-use Rattle.rules.specs.declared.Yielded.{Yielded}
-use Rattle.rules.specs.Refusals.{answer_number, answer_stores, reading_number, reading_place, reading_words, yielded_number, yielded_place, outcome}
+use Rattle.rules.specs.Refusals.{answer_number, answer_stores, reading_number, reading_place, reading_words, yielded_number, yielded_place, outcome, Answer, Reading, Yielded}
 use Rattle.rules.specs.Lists.{Request, plan_of}
 use Rattle.rules.specs.Search.{read_of, search_of}
 use Rattle.manager.specs.Reading.{Reads}

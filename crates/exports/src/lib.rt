@@ -24,8 +24,8 @@ pub extern "C" fn asterhinge_format(
     ensures { Gives (area_of pages words) format power flash.old result stores.new flash.new }
 {
     let answer = manager::format(flash, Area { pages, words }, power);
-    *stores = answer.stores();
-    answer.number() as u32
+    *stores = rules::answer_stores(answer);
+    u32::from(rules::answer_number(answer))
 }
 
 // Makes an undamaged area ready; `stores` becomes the number of stores made.
@@ -40,8 +40,8 @@ pub extern "C" fn asterhinge_recover(
     ensures { Gives (area_of pages words) recover power flash.old result stores.new flash.new }
 {
     let answer = manager::recover(flash, Area { pages, words }, power);
-    *stores = answer.stores();
-    answer.number() as u32
+    *stores = rules::answer_stores(answer);
+    u32::from(rules::answer_number(answer))
 }
 
 // Gives a handle its data, in place of what it had; `stores` becomes the number of stores made.
@@ -58,8 +58,8 @@ pub extern "C" fn asterhinge_write(
     ensures { Gives (area_of pages words) (write handle «data».now) power flash.old result stores.new flash.new }
 {
     let answer = manager::write(flash, Area { pages, words }, handle, data, power);
-    *stores = answer.stores();
-    answer.number() as u32
+    *stores = rules::answer_stores(answer);
+    u32::from(rules::answer_number(answer))
 }
 
 // Takes a handle's data away; `stores` becomes the number of stores made.
@@ -75,8 +75,8 @@ pub extern "C" fn asterhinge_delete(
     ensures { Gives (area_of pages words) (delete handle) power flash.old result stores.new flash.new }
 {
     let answer = manager::delete(flash, Area { pages, words }, handle, power);
-    *stores = answer.stores();
-    answer.number() as u32
+    *stores = rules::answer_stores(answer);
+    u32::from(rules::answer_number(answer))
 }
 
 // Where a handle's data lie: `place` becomes the place of its entry's header in the run, one word
@@ -92,10 +92,10 @@ pub extern "C" fn asterhinge_read(
 ) -> u32
     ensures { Locates (area_of pages words) handle flash.now result place.new count.new }
 {
-    let answer = manager::read(flash, Area { pages, words }, handle);
-    *place = answer.place();
-    *count = answer.words();
-    answer.number() as u32
+    let reading = manager::read(flash, Area { pages, words }, handle);
+    *place = rules::reading_place(reading);
+    *count = rules::reading_words(reading);
+    u32::from(rules::number(reading))
 }
 
 // A step of a search from a place, 0 being the beginning: `place` becomes the place of the next
@@ -113,6 +113,6 @@ pub extern "C" fn asterhinge_search(
     ensures { Yields (area_of pages words) mask pattern start flash.now result place.new }
 {
     let yielded = searching::search(flash, Area { pages, words }, mask, pattern, start);
-    *place = yielded.place();
-    yielded.number() as u32
+    *place = rules::yielded_place(yielded);
+    u32::from(rules::number(yielded))
 }

@@ -1,16 +1,14 @@
 -- What a line does, from what its request answers: promise and laws. Assumes nothing.
-use Rattle.std.specs.Prelude.{◌≡◌, refl, List, Bool, true, false, ℕ, length, take}
+use Rattle.std.specs.Prelude.{◌≡◌, refl, List, Bool, true, false, ℕ, length, take, Ok, Err}
 use Rattle.std.proofs.Common.{sym, ap, ◌∙◌, length-take-le, ne_eqb}
 use Rattle.std.proofs.Math.Path.{subst}
 use Rattle.std.proofs.lemmas.Bool.{not-true, not-false}
-use Rattle.rules.specs.declared.Answer.{Answer}
-use Rattle.rules.specs.declared.Reading.{Reading}
+use Rattle.rules.specs.declared.Found.{Found}
 use Rattle.rules.specs.declared.Refusal.{Refusal}
 use Rattle.rules.specs.declared.Refusal.TheVariants.{Geometry}
-use Rattle.rules.specs.declared.Yielded.{Yielded}
 use Rattle.rules.specs.declared.PageSize.{PageSize}
 use Rattle.rules.specs.declared.PageSize.TheVariants.{Small, Medium, Large}
-use Rattle.rules.specs.Refusals.{refusal_number, answer_number, answer_stores}
+use Rattle.rules.specs.Refusals.{refusal_number, answer_number, answer_stores, Answer, Reading, Yielded}
 use Rattle.rules.specs.Lists.{Request, format, recover, write, delete}
 use Rattle.rules.specs.Search.{read_of, search_of}
 use Rattle.frames.specs.declared.Shape.{Shape}
@@ -45,17 +43,17 @@ pub refused_reply : {n : ℕ} {r : Reply} (y : Refusal) → n ≡ refusal_number
 refused_reply y e d = d ∙ rw e
 
 module _ {x : Reading} where
-  pub read_words : {p n : ℕ} → x ≡ Reading.At p n → record { number = 0; stores = 0; tail = Tail.Words p n } ≡ read_reply x
+  pub read_words : {d : Found} → x ≡ Ok d → record { number = 0; stores = 0; tail = Tail.Words d.place d.words } ≡ read_reply x
   read_words q = rw q
 
-  pub read_refused : {y : Refusal} {n : ℕ} {r : Reply} → x ≡ Reading.Refused y → n ≡ refusal_number y → r ≡ plain n 0 → r ≡ read_reply x
+  pub read_refused : {y : Refusal} {n : ℕ} {r : Reply} → x ≡ Err y → n ≡ refusal_number y → r ≡ plain n 0 → r ≡ read_reply x
   read_refused {y} q e d = refused_reply y e d ∙ rw q
 
 module _ {x : Yielded} (a : Shape) (mask pattern : ℕ) where
-  pub list_handles_reply : {p : ℕ} → x ≡ Yielded.At p → record { number = 0; stores = 0; tail = Tail.Handles a mask pattern } ≡ list_reply a mask pattern x
+  pub list_handles_reply : {p : ℕ} → x ≡ Ok p → record { number = 0; stores = 0; tail = Tail.Handles a mask pattern } ≡ list_reply a mask pattern x
   list_handles_reply q = rw q
 
-  pub list_refused : {y : Refusal} {n : ℕ} {r : Reply} → x ≡ Yielded.Refused y → n ≡ refusal_number y → r ≡ plain n 0 → r ≡ list_reply a mask pattern x
+  pub list_refused : {y : Refusal} {n : ℕ} {r : Reply} → x ≡ Err y → n ≡ refusal_number y → r ≡ plain n 0 → r ≡ list_reply a mask pattern x
   list_refused {y} q e d = refused_reply y e d ∙ rw q
 
 pub ruleset replies = (answer_reply, read_words, read_refused, list_handles_reply, list_refused)

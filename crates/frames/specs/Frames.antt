@@ -1,15 +1,12 @@
 -- The console: document 01, "The console". A line and an answer are lists of bytes. Definitions alone. Assumes nothing.
-use Rattle.std.specs.Prelude.{◌≡◌, List, [], ◌∷◌, ◌++◌, Bool, true, cond, ◌&&◌, ◌||◌, ℕ, suc, zero, ◌+◌, ◌-◌, ◌*◌, ◌/◌, ◌%◌, length, get_or, take, drop, leb, ltb, eqb}
+use Rattle.std.specs.Prelude.{◌≡◌, List, [], ◌∷◌, ◌++◌, Bool, true, cond, ◌&&◌, ◌||◌, ℕ, suc, zero, ◌+◌, ◌-◌, ◌*◌, ◌/◌, ◌%◌, length, get_or, take, drop, leb, ltb, eqb, Ok, Err}
 use Rattle.rules.specs.declared.Area.{Area}
 use Rattle.rules.specs.declared.PageSize.{PageSize}
 use Rattle.rules.specs.declared.PageSize.TheVariants.{Small, Medium, Large}
 use Rattle.rules.specs.declared.Refusal.TheVariants.{Geometry}
-use Rattle.rules.specs.declared.Answer.{Answer}
-use Rattle.rules.specs.declared.Reading.{Reading}
-use Rattle.rules.specs.declared.Yielded.{Yielded}
 use Rattle.rules.specs.Words.{words_of}
 use Rattle.rules.specs.Areas.{Entry, entries}
-use Rattle.rules.specs.Refusals.{refusal_number, answer_number, answer_stores, wrong_geometry, outcome}
+use Rattle.rules.specs.Refusals.{refusal_number, answer_number, answer_stores, wrong_geometry, outcome, Answer, Reading, Yielded}
 use Rattle.rules.specs.Lists.{Request, format, recover, write, delete, plan_of}
 use Rattle.rules.specs.Search.{matches, read_of, search_of}
 use Rattle.frames.specs.declared.Shape.{Shape}
@@ -19,6 +16,7 @@ use Rattle.frames.specs.declared.Reply.{Reply}
 use Rattle.frames.specs.declared.Frame.{Frame}
 use Rattle.frames.specs.declared.Said.{Said}
 use Rattle.frames.specs.declared.Answered.{Answered}
+use Rattle.rules.specs.declared.Made.{Made}
 
 -- ---- digits of a line: capital hexadecimal
 abbrev pub is_digit : ℕ → Bool
@@ -176,16 +174,16 @@ told s f r = record { state = s; reply = r; flash = f }
 
 -- read: its words
 abbrev pub read_reply : Reading → Reply
-read_reply (Reading.At p n) = record { number = 0x00; stores = 0; tail = Tail.Words p n }
-read_reply (Reading.Refused n) = plain (refusal_number n) 0
+read_reply (Ok d) = record { number = 0x00; stores = 0; tail = Tail.Words d.place d.words }
+read_reply (Err n) = plain (refusal_number n) 0
 
 abbrev pub read_frame : State → List ℕ → ℕ → Effect
 read_frame s f h = told s f (read_reply (read_of (area_of s.shape) h (run_of s.shape f)))
 
 -- list: what a search from 0 gives, but the handles of all its matches
 abbrev pub list_reply : Shape → ℕ → ℕ → Yielded → Reply
-list_reply a mask pattern (Yielded.At p) = record { number = 0x00; stores = 0; tail = Tail.Handles a mask pattern }
-list_reply a mask pattern (Yielded.Refused n) = plain (refusal_number n) 0
+list_reply a mask pattern (Ok p) = record { number = 0x00; stores = 0; tail = Tail.Handles a mask pattern }
+list_reply a mask pattern (Err n) = plain (refusal_number n) 0
 
 abbrev pub list_frame : State → List ℕ → ℕ → ℕ → Effect
 list_frame s f mask pattern = told s f (list_reply s.shape mask pattern (search_of (area_of s.shape) mask pattern 0 (run_of s.shape f)))
@@ -202,9 +200,9 @@ abbrev pub size_named : ℕ → PageSize
 size_named n = cond (eqb n 0x00) Small (cond (eqb n 0x01) Medium Large)
 
 abbrev pub shape_after : Shape → Shape → Answer → Shape
-shape_after old new (Answer.Done n) = new
-shape_after old new (Answer.Cut n) = old
-shape_after old new (Answer.Refused n) = old
+shape_after old new (Ok (Made.Done n)) = new
+shape_after old new (Ok (Made.Cut n)) = old
+shape_after old new (Err n) = old
 
 abbrev pub format_area : State → List ℕ → Shape → Effect
 format_area s f a =

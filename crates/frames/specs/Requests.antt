@@ -5,10 +5,7 @@ use Rattle.std.proofs.Common.{◌∙◌, length-take-le}
 use mathlib.Core.List.{List, ◌++◌}
 use Rattle.std.proofs.Math.ListN.{drop}
 use Rattle.rules.specs.declared.Area.{Area}
-use Rattle.rules.specs.declared.Answer.{Answer}
-use Rattle.rules.specs.declared.Reading.{Reading}
-use Rattle.rules.specs.declared.Yielded.{Yielded}
-use Rattle.rules.specs.Refusals.{outcome}
+use Rattle.rules.specs.Refusals.{outcome, Answer, Reading, Yielded}
 use Rattle.rules.specs.Lists.{Request, plan_of}
 use Rattle.rules.specs.Search.{read_of, search_of}
 use Rattle.manager.specs.Storing.{Answers}

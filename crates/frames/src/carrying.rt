@@ -8,7 +8,7 @@ ghost use Rattle.frames.specs.Frames.{plain, read_reply, list_reply, size_named,
 ghost use Rattle.frames.specs.Carrying.{Carries, Spends, Tells};
 
 use crate::{ENOUGH, Frame, Reply, Shape, State, Tail, line, requests};
-use rules::{Answer, PageSize, Reading, Refusal, Yielded};
+use rules::{Answer, Made, PageSize, Reading, Refusal, Yielded};
 
 // The number of a line that is no frame.
 const BAD_FRAME: u8 = 0x0A;
@@ -35,7 +35,7 @@ fn plain(number: u8, stores: u32) -> Reply
 fn answer_reply(answer: Answer) -> Reply
     ensures { result ≡ plain (answer_number answer) (answer_stores answer) }
 {
-    plain(answer.number(), answer.stores())
+    plain(rules::answer_number(answer), rules::answer_stores(answer))
 }
 
 // The reply to a read.
@@ -43,12 +43,15 @@ fn read_reply(reading: Reading) -> Reply
     ensures { result ≡ read_reply reading }
 {
     match reading {
-        Reading::At { place, words } => Reply {
+        Ok(found) => Reply {
             number: 0,
             stores: 0,
-            tail: Tail::Words { place, words },
+            tail: Tail::Words {
+                place: found.place,
+                words: found.words,
+            },
         },
-        Reading::Refused(why) => plain(why.number(), 0),
+        Err(why) => plain(why.number(), 0),
     }
 }
 
@@ -57,7 +60,7 @@ fn list_reply(shape: Shape, mask: u16, pattern: u16, yielded: Yielded) -> Reply
     ensures { result ≡ list_reply shape mask pattern yielded }
 {
     match yielded {
-        Yielded::At(_) => Reply {
+        Ok(_) => Reply {
             number: 0,
             stores: 0,
             tail: Tail::Handles {
@@ -66,7 +69,7 @@ fn list_reply(shape: Shape, mask: u16, pattern: u16, yielded: Yielded) -> Reply
                 pattern,
             },
         },
-        Yielded::Refused(why) => plain(why.number(), 0),
+        Err(refusal) => plain(refusal.number(), 0),
     }
 }
 
@@ -88,9 +91,8 @@ fn shape_after(old: Shape, new: Shape, answer: Answer) -> Shape
     ensures { result ≡ shape_after old new answer }
 {
     match answer {
-        Answer::Done(_) => new,
-        Answer::Cut(_) => old,
-        Answer::Refused(_) => old,
+        Ok(Made::Done(_)) => new,
+        Ok(Made::Cut(_)) | Err(_) => old,
     }
 }
 

@@ -1,20 +1,17 @@
 -- The three demands, of the functions themselves: what whoever calls format, recover, write, delete and read may rely on, from what they promise
 -- (`Answers`, `Reads`) and the theorems of crate `demands`, whose `Terms` has the words `Given`, `Fair`, `Holds` and others. For every
 -- power. Assumes nothing.
-use Rattle.std.specs.Prelude.{◌≡◌, refl, List, [], ◌∷◌, Bool, true, false, cond, ◌⊎◌, ◌≢◌, ℕ, ◌+◌, ◌*◌, ◌≤◌, ◌<◌, length, take, leb}
+use Rattle.std.specs.Prelude.{◌≡◌, refl, List, [], ◌∷◌, Bool, true, false, cond, ◌⊎◌, ◌≢◌, ℕ, ◌+◌, ◌*◌, ◌≤◌, ◌<◌, length, take, leb, Some, None, Ok, Err}
 use Rattle.std.proofs.Math.Path.{ap}
 use Rattle.std.proofs.Common.{sym, subst, ◌∙◌, inl, inr, ⊎_elim, arith, mul-le-mul_right, le-leb, leb-true, eq-eqb, ne_eqb}
-use Rattle.std.proofs.Math.Option.{some, none}
 use Rattle.std.proofs.lemmas.Bool.{lt-leb}
 use Rattle.flash.specs.Stores.{Words, Store, made, made_first}
 use Rattle.flash.specs.Laws.{first_all}
 use Rattle.rules.specs.declared.Area.{Area}
 use Rattle.rules.specs.declared.Refusal.{Refusal}
 use Rattle.rules.specs.declared.Refusal.TheVariants.{NotFound}
-use Rattle.rules.specs.declared.Answer.{Answer}
-use Rattle.rules.specs.declared.Reading.{Reading}
 use Rattle.rules.specs.Areas.{entries, live_words, map_of, ready}
-use Rattle.rules.specs.Refusals.{answer_stores, Plan, refuse, list, outcome_of}
+use Rattle.rules.specs.Refusals.{answer_stores, Plan, refuse, list, outcome_of, Answer, Reading}
 use Rattle.rules.specs.Lists.{Request, format, recover, write, delete, plan_of}
 use Rattle.rules.specs.Search.{read_of}
 use Rattle.rules.specs.Laws.{stores_made}
@@ -24,17 +21,18 @@ use Rattle.demands.specs.Demands.{no_bit_back, format_stores, delete_stores, wri
 use Rattle.demands.specs.Runs.{usable}
 use Rattle.manager.specs.Reading.{Reads}
 use Rattle.manager.specs.Storing.{Answers}
+use Rattle.rules.specs.declared.Made.{Made}
 
 -- ---- Demand 1. A refusal makes no store and leaves every word as it found it.
-refused_plan : (p : Plan) (k : ℕ) (f : List ℕ) (n : Refusal) → (outcome_of p k f).answer ≡ Answer.Refused n → (outcome_of p k f).flash ≡ f
+refused_plan : (p : Plan) (k : ℕ) (f : List ℕ) (n : Refusal) → (outcome_of p k f).answer ≡ Err n → (outcome_of p k f).flash ≡ f
 refused_plan (refuse m) k f n e = refl
 refused_plan (list ss) k f n e = go (leb (length ss) k) refl
   where
     go : (b : Bool) → leb (length ss) k ≡ b → made_first k ss f ≡ f
-    go true q = let z : Answer.Done (length ss) ≡ Answer.Refused n = rw q at e in absurd (let y : ◌≡◌ {A = ℕ} 0 1 = cc in let w : ⊥ = omega arith in w)
-    go false q = let z : Answer.Cut k ≡ Answer.Refused n = rw q at e in absurd (let y : ◌≡◌ {A = ℕ} 0 1 = cc in let w : ⊥ = omega arith in w)
+    go true q = let z : Ok (Made.Done (length ss)) ≡ Err n = rw q at e in absurd (let y : ◌≡◌ {A = ℕ} 0 1 = cc in let w : ⊥ = omega arith in w)
+    go false q = let z : Ok (Made.Cut k) ≡ Err n = rw q at e in absurd (let y : ◌≡◌ {A = ℕ} 0 1 = cc in let w : ⊥ = omega arith in w)
 
-pub refused_unchanged : {a : Area} {r : Request} {k : ℕ} {f g : List ℕ} {n : Refusal} → Answers a r k f (Answer.Refused n) g → g ≡ f
+pub refused_unchanged : {a : Area} {r : Request} {k : ℕ} {f g : List ℕ} {n : Refusal} → Answers a r k f (Err n) g → g ≡ f
 refused_unchanged {a} {r} {k} {f} {g} {n} c = c.flash ∙ refused_plan (plan_of a r f) k f n (sym c.answer)
 
 -- ---- Demand 2. With power for k stores the flash is the starting flash with the first k stores of the rules' list made, or all of them; as
@@ -47,10 +45,10 @@ module _ {a : Area} {r : Request} {k : ℕ} {f g : List ℕ} {x : Answer} (c : A
     ap answer_stores c.answer ∙ ap (λ (p : Plan). answer_stores (outcome_of p k f).answer) e ∙ stores_made ss k f,
   )
 
-  by_list : x ≡ cond (leb (length ss) k) (Answer.Done (length ss)) (Answer.Cut k)
+  by_list : x ≡ cond (leb (length ss) k) (Ok (Made.Done (length ss))) (Ok (Made.Cut k))
   by_list = c.answer ∙ ap (λ (p : Plan). (outcome_of p k f).answer) e
 
-  pub done_or_cut : (length ss ≤ k → x ≡ Answer.Done (length ss)) × (k < length ss → x ≡ Answer.Cut k)
+  pub done_or_cut : (length ss ≤ k → x ≡ Ok (Made.Done (length ss))) × (k < length ss → x ≡ Ok (Made.Cut k))
   done_or_cut = ((λ l. by_list ∙ rw (le-leb (length ss) k l)), (λ l. by_list ∙ rw (lt-leb (length ss) k l)))
 
   pub no_bit_asked_back : Given a f → Typed r → Fair a ss f
@@ -77,44 +75,44 @@ module _ {a : Area} {f : List ℕ} (w : Given a f) where
 
 -- ---- A change that was DONE is the map with that change made and no other: what is written reads back, what is deleted does not. A format
 -- that was DONE is an empty map.
-done_plan : (p : Plan) (k s : ℕ) (f : List ℕ) → (outcome_of p k f).answer ≡ Answer.Done s → (ss : List Store) × (p ≡ list ss) × ((outcome_of p k f).flash ≡ made ss f)
+done_plan : (p : Plan) (k s : ℕ) (f : List ℕ) → (outcome_of p k f).answer ≡ Ok (Made.Done s) → (ss : List Store) × (p ≡ list ss) × ((outcome_of p k f).flash ≡ made ss f)
 done_plan (refuse n) k s f e = absurd (let y : ◌≡◌ {A = ℕ} 0 1 = cc in let w : ⊥ = omega arith in w)
 done_plan (list ss) k s f e = (ss, refl, go (leb (length ss) k) refl)
   where
     go : (b : Bool) → leb (length ss) k ≡ b → made_first k ss f ≡ made ss f
     go true q = first_all k ss f (leb-true (length ss) k q)
-    go false q = let z : Answer.Cut k ≡ Answer.Done s = rw q at e in absurd (let y : ◌≡◌ {A = ℕ} 0 1 = cc in let w : ⊥ = omega arith in w)
+    go false q = let z : Ok (Made.Cut k) ≡ Ok (Made.Done s) = rw q at e in absurd (let y : ◌≡◌ {A = ℕ} 0 1 = cc in let w : ⊥ = omega arith in w)
 
 module _ {a : Area} {k s : ℕ} {f g : List ℕ} (w : Given a f) where
-  pub done_changed : {r : Request} → Change r → Answers a r k f (Answer.Done s) g → Holds a g (changed r (map_of a f))
+  pub done_changed : {r : Request} → Change r → Answers a r k f (Ok (Made.Done s)) g → Holds a g (changed r (map_of a f))
   done_changed {r} q c =
       let l = done_plan (plan_of a r f) k s f (sym c.answer) in
       rw (c.flash ∙ l.2) (whole_change w r q l.0 l.1)
 
-  pub formatted_empty : Answers a format k f (Answer.Done s) g → Holds a g (λ u. none)
+  pub formatted_empty : Answers a format k f (Ok (Made.Done s)) g → Holds a g (λ u. None)
   formatted_empty c =
       let l = done_plan (plan_of a format f) k s f (sym c.answer) in
       rw (c.flash ∙ l.2) (formatted w l.0 l.1)
 
-  pub written_reads : {x : Reading} (h : ℕ) (d : List ℕ) → Words d → Answers a (write h d) k f (Answer.Done s) g → Reads a h g x
-      → (p : ℕ) × (x ≡ Reading.At p (length d)) × StandsAt g p h d
+  pub written_reads : {x : Reading} (h : ℕ) (d : List ℕ) → Words d → Answers a (write h d) k f (Ok (Made.Done s)) g → Reads a h g x
+      → (p : ℕ) × (x ≡ Ok (record { place = p; words = length d })) × StandsAt g p h d
   written_reads h d q c r =
       let l = done_plan (plan_of a (write h d) f) k s f (sym c.answer) in
       let e : g ≡ made l.0 f = c.flash ∙ l.2 in
       let b = reads_back w h d q l.0 l.1 in
       (b.0, r ∙ ap (read_of a h) e ∙ b.1, rw e b.2)
 
-  pub deleted_reads : {x : Reading} (h : ℕ) → Answers a (delete h) k f (Answer.Done s) g → Reads a h g x → x ≡ Reading.Refused NotFound
+  pub deleted_reads : {x : Reading} (h : ℕ) → Answers a (delete h) k f (Ok (Made.Done s)) g → Reads a h g x → x ≡ Err NotFound
   deleted_reads h c r =
       let l = done_plan (plan_of a (delete h) f) k s f (sym c.answer) in
       r ∙ ap (read_of a h) (c.flash ∙ l.2) ∙ reads_none w h l.0 l.1
 
 -- What a map holds is what a read gives, of every handle.
 module _ {a : Area} {m : Map} {g : List ℕ} {x : Reading} (s : Holds a g m) where
-  pub held_reads : (h : ℕ) (d : List ℕ) → m h ≡ some d → Reads a h g x → (p : ℕ) × (x ≡ Reading.At p (length d)) × StandsAt g p h d
+  pub held_reads : (h : ℕ) (d : List ℕ) → m h ≡ Some d → Reads a h g x → (p : ℕ) × (x ≡ Ok (record { place = p; words = length d })) × StandsAt g p h d
   held_reads h d e r = let b = map_read s.given s.ready h d (s.map h ∙ e) in (b.0, r ∙ b.1, b.2)
 
-  pub absent_reads : (h : ℕ) → 1 ≤ h → h ≤ 0x7EFF → m h ≡ none → Reads a h g x → x ≡ Reading.Refused NotFound
+  pub absent_reads : (h : ℕ) → 1 ≤ h → h ≤ 0x7EFF → m h ≡ None → Reads a h g x → x ≡ Err NotFound
   absent_reads h l u e r = r ∙ map_unread s.given s.ready h l u (s.map h ∙ e)
 
 -- ---- Demand 3. Recoveries, each with any power, and at last one that is not cut.

@@ -18,10 +18,9 @@ ghost use Rattle.manager.specs.Reading.{Reads};
 ghost use Rattle.manager.specs.Holding.{last_word, has_words};
 ghost use Rattle.manager.specs.Storing.{Answers, full, Rest};
 
-use entries::Found;
 use flash::Power;
-use rules::{Answer, Area, Reading, Refusal, SPECIAL};
-use survey::{Looked, Surveyed, View};
+use rules::{Answer, Area, Found, Made, Reading, Refusal, SPECIAL};
+use survey::View;
 
 // Whether no entry can be live under a handle.
 fn bad_handle(handle: u32) -> bool
@@ -36,19 +35,12 @@ fn bad_handle(handle: u32) -> bool
 pub fn read(flash: &[u32], area: Area, handle: u16) -> Reading
     ensures { Reads area handle flash.now result }
 {
-    match survey::survey(flash, area, handle as u32, 0) {
-        Surveyed::Refused(why) => Reading::Refused(why),
-        Surveyed::Ready(view) => {
-            if bad_handle(handle as u32) {
-                return Reading::Refused(Refusal::BadHandle);
-            }
-            let entry = view.entry;
-            match entry {
-                Found::None => Reading::Refused(Refusal::NotFound),
-                Found::At { place, words } => Reading::At { place, words },
-            }
-        }
+    let wanted = u32::from(handle);
+    let view = survey::survey(flash, area, wanted, 0)?;
+    if bad_handle(wanted) {
+        return Err(Refusal::BadHandle);
     }
+    view.entry.ok_or(Refusal::NotFound)
 }
 
 // The power for so many stores.
@@ -68,9 +60,9 @@ fn answer(power: u32, rest: Power) -> Answer
 {
     let stores = power - rest.left;
     if rest.cut {
-        return Answer::Cut(stores);
+        return Ok(Made::Cut(stores));
     }
-    Answer::Done(stores)
+    Ok(Made::Done(stores))
 }
 
 // Makes the area empty, whatever the run holds. Refused is a wrong geometry.
@@ -78,7 +70,7 @@ pub fn format(flash: &mut [u32], area: Area, power: u32) -> Answer
     ensures { Answers area format power flash.old result flash.new }
 {
     if area::wrong_geometry(flash, area) {
-        return Answer::Refused(Refusal::Geometry);
+        return Err(Refusal::Geometry);
     }
     let rest = stores::format(flash, area, full(power));
     answer(power, rest)
@@ -90,13 +82,13 @@ pub fn format(flash: &mut [u32], area: Area, power: u32) -> Answer
 pub fn recover(flash: &mut [u32], area: Area, power: u32) -> Answer
     ensures { Answers area recover power flash.old result flash.new }
 {
-    match survey::look(flash, area, 0, 0) {
-        Looked::Refused(why) => Answer::Refused(why),
-        Looked::Unsealed => {
+    let looked = survey::look(flash, area, 0, 0)?;
+    match looked {
+        None => {
             let rest = recovery::recover(flash, area, full(power));
             answer(power, rest)
         }
-        Looked::Sealed(sight) => {
+        Some(sight) => {
             let rest = entries::doubles::drop_in(flash, area, sight.windows, full(power));
             answer(power, rest)
         }
@@ -108,22 +100,16 @@ pub fn recover(flash: &mut [u32], area: Area, power: u32) -> Answer
 pub fn delete(flash: &mut [u32], area: Area, handle: u16, power: u32) -> Answer
     ensures { Answers area (delete handle) power flash.old result flash.new }
 {
-    match survey::survey(flash, area, handle as u32, 0) {
-        Surveyed::Refused(why) => Answer::Refused(why),
-        Surveyed::Ready(view) => {
-            if bad_handle(handle as u32) {
-                return Answer::Refused(Refusal::BadHandle);
-            }
-            let entry = view.entry;
-            match entry {
-                Found::None => Answer::Refused(Refusal::NotFound),
-                Found::At { place, words } => {
-                    let rest = stores::bare(flash, place, words, full(power));
-                    answer(power, rest)
-                }
-            }
-        }
+    let handle = u32::from(handle);
+    let view = survey::survey(flash, area, handle, 0)?;
+    if bad_handle(handle) {
+        return Err(Refusal::BadHandle);
     }
+    let Some(entry) = view.entry else {
+        return Err(Refusal::NotFound);
+    };
+    let rest = stores::bare(flash, entry.place, entry.words, full(power));
+    answer(power, rest)
 }
 
 // The words of an entry with these data; those of the longest, if no entry can have them.
@@ -164,13 +150,13 @@ fn same_words(xs: &[u32], ys: &[u32]) -> bool
 }
 
 // Whether the entry found has these very data; false if none was found.
-fn has_words(flash: &[u32], found: Found, data: &[u32]) -> bool
+fn has_words(flash: &[u32], found: Option<Found>, data: &[u32]) -> bool
     requires { last_word found < length flash.now }
     ensures { result ≡ has_words flash.now found «data».now }
 {
     match found {
-        Found::At { place, words } => same_words(data_at(flash, place, words), data),
-        Found::None => false,
+        Some(entry) => same_words(data_at(flash, entry.place, entry.words), data),
+        None => false,
     }
 }
 
@@ -188,10 +174,10 @@ fn write_entry(
 {
     let entry = view.entry;
     if has_words(flash, entry, data) {
-        return Answer::Done(0);
+        return Ok(Made::Done(0));
     }
     if survey::is_full(area, view.live, data.len() + 1) {
-        return Answer::Refused(Refusal::NoRoom);
+        return Err(Refusal::NoRoom);
     }
     let rest = writing::write(flash, area, view, handle, data, full(power));
     answer(power, rest)
@@ -203,16 +189,13 @@ fn write_entry(
 pub fn write(flash: &mut [u32], area: Area, handle: u16, data: &[u32], power: u32) -> Answer
     ensures { Answers area (write handle «data».now) power flash.old result flash.new }
 {
-    match survey::survey(flash, area, handle as u32, entry_words(data)) {
-        Surveyed::Refused(why) => Answer::Refused(why),
-        Surveyed::Ready(view) => {
-            if bad_handle(handle as u32) {
-                return Answer::Refused(Refusal::BadHandle);
-            }
-            if 32 < data.len() {
-                return Answer::Refused(Refusal::BadLength);
-            }
-            write_entry(flash, area, view, handle as u32, data, power)
-        }
+    let handle = u32::from(handle);
+    let view = survey::survey(flash, area, handle, entry_words(data))?;
+    if bad_handle(handle) {
+        return Err(Refusal::BadHandle);
     }
+    if 32 < data.len() {
+        return Err(Refusal::BadLength);
+    }
+    write_entry(flash, area, view, handle, data, power)
 }

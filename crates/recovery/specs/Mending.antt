@@ -1,8 +1,7 @@
 -- The mending of a torn page: what it finds of the last entry, what a loop over the entries has come to, and the stores, from what a function
 -- has found and stored. Definitions and laws. Assumes nothing.
-use Rattle.std.specs.Prelude.{◌≡◌, refl, List, [], ◌∷◌, ◌++◌, Bool, true, false, cond, ℕ, suc, ◌+◌, ◌-◌, ◌≤◌, ◌<◌, length, get_or, take, drop, eqb}
+use Rattle.std.specs.Prelude.{◌≡◌, refl, List, [], ◌∷◌, ◌++◌, Bool, true, false, cond, ℕ, suc, ◌+◌, ◌-◌, ◌≤◌, ◌<◌, length, get_or, take, drop, eqb, Option, Some, None}
 use Rattle.std.proofs.Common.{sym, ap, ◌∙◌, arith, length-take, length-drop, length-take-le, eq-eqb, ne_eqb}
-use Rattle.std.proofs.Math.Option.{Option, some, none}
 use Rattle.flash.specs.declared.Power.{Power}
 use Rattle.flash.specs.Stores.{put, Ran}
 use Rattle.flash.specs.Laws.{ran_none, ran_append, ran_length, turn_start, turn_on, turn_end}
@@ -15,14 +14,14 @@ use Rattle.rules.specs.Areas.{base, page, kind, Entry, page_entries}
 use Rattle.rules.specs.Lists.{bare_if, last_of, bare_if_live, mend_as, mend}
 use Rattle.rules.specs.Places.{Right, right_ran, base_in}
 use Rattle.pages.specs.Steps.{length_at, entries_at, entry_at, length_inside, entries_on, entries_end}
-use Rattle.entries.specs.declared.Found.{Found}
 use Rattle.entries.specs.Ahead.{found_of, page_onward}
 use Rattle.stores.specs.Making.{page_ends, bare_found, found_bare}
+use Rattle.rules.specs.declared.Found.{Found}
 
 -- an entry, if it is live
 abbrev pub if_live : Option Entry → Option Entry
-if_live none = none
-if_live (some e) = cond (is_live e.handle) (some e) none
+if_live None = None
+if_live (Some e) = cond (is_live e.handle) (Some e) None
 
 -- ---- a search for the last entry has come to a place, and remembers the entry of n words at another; none, if n is 0
 abbrev pub seen : List ℕ → ℕ → ℕ → List Entry
@@ -58,18 +57,18 @@ module _ {p : List ℕ} {start place n at m : ℕ} (s : Passing p start place n 
   passed : m ≡ 0 → last_of (seen p place n ++ []) ≡ last_of (entries_at p start)
   passed z = rw (entries_end p at e z) at s.same
 
-  pub last_none : m ≡ 0 → n ≡ 0 → Found.None ≡ found_of (if_live (last_of (entries_at p start)))
+  pub last_none : m ≡ 0 → n ≡ 0 → None ≡ found_of (if_live (last_of (entries_at p start)))
   last_none z y = ap (λ (o : Option Entry). found_of (if_live o)) (rw (eq-eqb n 0 y) at (passed z))
 
   module _ {h : ℕ} (z : m ≡ 0) (y : n ≡ 0 → ⊥) (q : h ≡ handle_of (get_or p place 0)) where
-    last_seen : found_of (cond (is_live h) (some (entry_at p place n)) none) ≡ found_of (if_live (last_of (entries_at p start)))
+    last_seen : found_of (cond (is_live h) (Some (entry_at p place n)) None) ≡ found_of (if_live (last_of (entries_at p start)))
     unfolding entry_at
     last_seen = rw q (ap (λ (o : Option Entry). found_of (if_live o)) (rw (ne_eqb n 0 y) at (passed z)))
 
-    pub last_dead : h ≡ 0 → Found.None ≡ found_of (if_live (last_of (entries_at p start)))
+    pub last_dead : h ≡ 0 → None ≡ found_of (if_live (last_of (entries_at p start)))
     last_dead d = rw (eq-eqb h 0 d) at last_seen
 
-    pub last_live : (h ≡ 0 → ⊥) → Found.At place (n - 1) ≡ found_of (if_live (last_of (entries_at p start)))
+    pub last_live : (h ≡ 0 → ⊥) → Some (record { place = place; words = n - 1 }) ≡ found_of (if_live (last_of (entries_at p start)))
     unfolding entry_at
     last_live d = rw (← data_words_length p place n s.inside) (rw (ne_eqb h 0 d) at last_seen)
 
@@ -77,10 +76,10 @@ pub ruleset passes = (passing_start, passing_on, last_none, last_dead)
 
 -- ---- the store of an entry that is live
 live_bare : (o : Option Entry) → bare_if (if_live o) ≡ bare_if_live o
-live_bare none = refl
-live_bare (some e) = go (is_live e.handle) refl
+live_bare None = refl
+live_bare (Some e) = go (is_live e.handle) refl
   where
-    go : (b : Bool) → is_live e.handle ≡ b → bare_if (if_live (some e)) ≡ bare_if_live (some e)
+    go : (b : Bool) → is_live e.handle ≡ b → bare_if (if_live (Some e)) ≡ bare_if_live (Some e)
     go true q = rw q
     go false q = rw q
 
@@ -89,7 +88,7 @@ module _ {a : Area} {f : List ℕ} {b : ℕ} (w : Right a f) where
   pub words_counted : {part : List ℕ} {n : ℕ} → part ≡ take (b + a.words) f → n ≤ length part → b ≤ 261120 → n ≤ 262144
   words_counted d h l = let m = w.narrow in omega (arith, ap length d, length-take (b + a.words) f)
 
-  pub torn_mended : {g h part own : List ℕ} {i n : ℕ} {found : Found} {p q r : Power} → b ≡ base a i → i < a.pages → part ≡ take (b + a.words) f
+  pub torn_mended : {g h part own : List ℕ} {i n : ℕ} {found : Option Found} {p q r : Power} → b ≡ base a i → i < a.pages → part ≡ take (b + a.words) f
       → found ≡ found_of (if_live (last_of (entries_at part (b + 2)))) → own ≡ page a f i → n ≡ stop own
       → Ran (bare_found found) p f q g → Ran (put (b + n) seal ∷ []) q g r h → Ran (mend_as Torn a i f) p f r h
   torn_mended {i = i} c l d e o s x y =

@@ -15,9 +15,8 @@ ghost use Rattle.entries.specs.Ahead.{found_of};
 ghost use Rattle.stores.specs.Making.{data_words};
 ghost use Rattle.recovery.specs.Mending.{if_live};
 
-use entries::Found;
 use flash::Power;
-use rules::{Area, Kind, Recovery, SEAL};
+use rules::{Area, Found, Kind, Recovery, SEAL};
 
 // The page that a committed R names made anew of R's words, up to and with the seal, and R freed.
 fn finish_page(flash: &mut [u32], area: Area, index: usize, power: Power) -> Power
@@ -43,7 +42,7 @@ fn finish(flash: &mut [u32], area: Area, power: Power) -> Power
 }
 
 // The last of the entries from a place on, if that one is live.
-fn last_live(part: &[u32], start: usize) -> Found
+fn last_live(part: &[u32], start: usize) -> Option<Found>
     ensures { (result ≡ found_of (if_live (last_of (entries_at part.now start)))) × (data_words result ≤ length part.now) }
 {
     let mut place = start;
@@ -59,15 +58,15 @@ fn last_live(part: &[u32], start: usize) -> Found
         at += next;
     }
     if length == 0 {
-        return Found::None;
+        return None;
     }
     if pages::handle_of(part[place]) == 0 {
-        return Found::None;
+        return None;
     }
-    Found::At {
+    Some(Found {
         place,
         words: length - 1,
-    }
+    })
 }
 
 // A torn page made a sealed one: its last entry bare, if that is live, and the seal behind its

@@ -1,7 +1,6 @@
 -- The area, its recovery page R, damaged and ready, the map and live words: document 01, "Words, pages, area". The run is the list
 -- of its words. Definitions alone. Assumes nothing.
-use Rattle.std.specs.Prelude.{List, [], ◌∷◌, ◌++◌, Bool, true, false, cond, not, ◌&&◌, ◌||◌, ℕ, suc, zero, ◌+◌, ◌*◌, get_or, take, drop, ltb, eqb}
-use Rattle.std.proofs.Math.Option.{Option, some, none}
+use Rattle.std.specs.Prelude.{List, [], ◌∷◌, ◌++◌, Bool, true, false, cond, not, ◌&&◌, ◌||◌, ℕ, suc, zero, ◌+◌, ◌*◌, get_or, take, drop, ltb, eqb, Option, Some, None}
 use Rattle.flash.specs.Stores.{blank}
 use Rattle.rules.specs.declared.Area.{Area}
 use Rattle.rules.specs.declared.Kind.{Kind}
@@ -86,8 +85,8 @@ any_of t [] = false
 any_of t (e ∷ es) = t e || any_of t es
 
 abbrev pub first_of : (Entry → Bool) → List Entry → Option Entry
-first_of t [] = none
-first_of t (e ∷ es) = cond (t e) (some e) (first_of t es)
+first_of t [] = None
+first_of t (e ∷ es) = cond (t e) (Some e) (first_of t es)
 
 -- whether an entry is a live one of the handle h
 abbrev pub live_of : ℕ → Entry → Bool
@@ -122,8 +121,8 @@ abbrev pub find : ℕ → List Entry → Option Entry
 find h es = first_of (live_of h) es
 
 abbrev pub data_of : Option Entry → Option (List ℕ)
-data_of none = none
-data_of (some e) = some e.words
+data_of None = None
+data_of (Some e) = Some e.words
 
 unfoldable pub map_of : Area → List ℕ → ℕ → Option (List ℕ)
 map_of a f h = data_of (find h (entries a f))

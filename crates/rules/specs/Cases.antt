@@ -1,16 +1,12 @@
 -- Cases that the definitions compute: acts on an area, what must be seen at each, and the words of the run that must stand at the end.
 -- Definitions alone. Assumes nothing.
-use Rattle.std.specs.Prelude.{List, [], ◌∷◌, map, ℕ, suc, zero, ◌+◌, take, drop, replicate}
-use Rattle.std.proofs.Math.Option.{Option}
+use Rattle.std.specs.Prelude.{List, [], ◌∷◌, map, ℕ, suc, zero, ◌+◌, take, drop, replicate, Option}
 use Rattle.rules.specs.declared.Area.{Area}
-use Rattle.rules.specs.declared.Answer.{Answer}
-use Rattle.rules.specs.declared.Reading.{Reading}
-use Rattle.rules.specs.declared.Yielded.{Yielded}
 use Rattle.rules.specs.declared.Kind.{Kind}
 use Rattle.rules.specs.declared.Recovery.{Recovery}
 use Rattle.rules.specs.Walk.{stop}
 use Rattle.rules.specs.Areas.{page, kind, recovery, entries, map_of, live_words}
-use Rattle.rules.specs.Refusals.{area_quota, reading_place, reading_words, outcome}
+use Rattle.rules.specs.Refusals.{area_quota, reading_place, reading_words, outcome, Answer, Reading, Yielded}
 use Rattle.rules.specs.Lists.{Request, plan_of}
 use Rattle.rules.specs.Search.{read_of, Search, step_of, moved}
 

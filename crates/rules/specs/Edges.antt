@@ -1,19 +1,16 @@
 -- The definitions computed at their edges, on areas that are crafted word by word: causes of GEOMETRY and DAMAGED, the order of checks,
 -- room to the last word, compaction and recovery with the words of every page; and what a read and a search tell. Assumes nothing.
-use Rattle.std.specs.Prelude.{◌≡◌, refl, List, [], ◌∷◌, ◌++◌, map, ℕ, ◌-◌, length}
-use Rattle.std.proofs.Math.Option.{some}
+use Rattle.std.specs.Prelude.{◌≡◌, refl, List, [], ◌∷◌, ◌++◌, map, ℕ, ◌-◌, length, Some, Ok, Err}
 use Rattle.flash.specs.Stores.{stored, wiped, made_first}
 use Rattle.rules.specs.declared.Area.{Area}
 use Rattle.rules.specs.declared.Refusal.TheVariants.{Geometry, Damaged, Unready, BadHandle, BadLength, NotFound, NoRoom, BadPlace}
-use Rattle.rules.specs.declared.Answer.TheVariants.{Done, Cut, Refused}
-use Rattle.rules.specs.declared.Reading.{Reading}
-use Rattle.rules.specs.declared.Yielded.{Yielded}
+use Rattle.rules.specs.declared.Made.TheVariants.{Done, Cut}
 use Rattle.rules.specs.declared.Kind.TheVariants.{Sealed, Torn, Neither}
 use Rattle.rules.specs.declared.Recovery.TheVariants.{Unfinished, Committed}
 use Rattle.rules.specs.Words.{meta1, index_of, header}
 use Rattle.rules.specs.Walk.{begins, items, rest, stop, meta_right, kind_of}
 use Rattle.rules.specs.Areas.{base, page, recovery_of, entries, damaged, ready, map_of}
-use Rattle.rules.specs.Refusals.{reading_number, reading_stores, reading_place, reading_words, yielded_number, yielded_stores, yielded_place, wrong_geometry, unready, holds, no_room}
+use Rattle.rules.specs.Refusals.{reading_number, reading_stores, reading_place, reading_words, yielded_number, yielded_stores, yielded_place, wrong_geometry, unready, holds, no_room, Reading, Yielded}
 use Rattle.rules.specs.Lists.{live_codes, leaves_room, room_page, makes_room, compact_page, format, recover, write, delete}
 use Rattle.rules.specs.Search.{next, bad_place}
 use Rattle.rules.specs.Cases.{Act, asks, reads, searches, looks, looks_at-R, looks_up, weighs, Seen, answer, reading, yields, page_is, R-is, value, weight, Case, comes, must, small, zeros, blanks, sevens, enough}
@@ -30,7 +27,7 @@ refusing a f xs = record { area = a; start = f; steps = xs; words = f }
 abbrev misshapen : ℕ → ℕ → ℕ → Case
 misshapen n p l =
     refusing (record { pages = n; words = p }) (zeros l)
-    ((asks format enough, answer (Refused Geometry)) ∷ (reads 0x0000, reading (Reading.Refused Geometry) []) ∷ [])
+    ((asks format enough, answer (Err Geometry)) ∷ (reads 0x0000, reading (Err Geometry) []) ∷ [])
 
 abbrev shapes : List Case
 shapes =
@@ -39,18 +36,18 @@ shapes =
     ∷ misshapen 1 65 130
     ∷ misshapen 1 64 127
     ∷ misshapen 1 64 129
-    ∷ refusing (small 255) (zeros 16384) ((reads 0x0000, reading (Reading.Refused Damaged) []) ∷ [])
+    ∷ refusing (small 255) (zeros 16384) ((reads 0x0000, reading (Err Damaged) []) ∷ [])
     ∷ []
 
 -- ---- DAMAGED, by page 0 or by R, of an area of one page; it comes before every other refusal but GEOMETRY
 abbrev broken : List ℕ → List ℕ → Case
 broken p r =
     refusing (small 1) (sheet p ++ sheet r)
-    ((asks recover enough, answer (Refused Damaged))
-    ∷ (asks (write 0x0000 (zeros 33)) 0, answer (Refused Damaged))
-    ∷ (asks (delete 0x7F00) 0, answer (Refused Damaged))
-    ∷ (reads 0x0000, reading (Reading.Refused Damaged) [])
-    ∷ (searches 0x0000 0x0000 1 1, yields (Yielded.Refused Damaged ∷ []))
+    ((asks recover enough, answer (Err Damaged))
+    ∷ (asks (write 0x0000 (zeros 33)) 0, answer (Err Damaged))
+    ∷ (asks (delete 0x7F00) 0, answer (Err Damaged))
+    ∷ (reads 0x0000, reading (Err Damaged) [])
+    ∷ (searches 0x0000 0x0000 1 1, yields (Err Damaged ∷ []))
     ∷ [])
 
 abbrev fresh : List ℕ
@@ -83,10 +80,10 @@ damages =
 abbrev twofold : Case
 twofold =
     refusing (small 1) (sheet (0x10100408 ∷ 0xFFFF0001 ∷ 0x00120001 ∷ 0x00120001 ∷ 0x7FFFFFFF ∷ []) ++ blanks 64)
-    ((asks (write 0x0000 (zeros 33)) 0, answer (Refused Unready))
-    ∷ (asks (delete 0x7F00) 0, answer (Refused Unready))
-    ∷ (reads 0x0000, reading (Reading.Refused Unready) [])
-    ∷ (searches 0x0000 0x0000 1 1, yields (Yielded.Refused Unready ∷ []))
+    ((asks (write 0x0000 (zeros 33)) 0, answer (Err Unready))
+    ∷ (asks (delete 0x7F00) 0, answer (Err Unready))
+    ∷ (reads 0x0000, reading (Err Unready) [])
+    ∷ (searches 0x0000 0x0000 1 1, yields (Err Unready ∷ []))
     ∷ [])
 
 -- an area over its quota
@@ -94,13 +91,13 @@ abbrev over : Case
 over =
     refusing (small 1) (sheet (0x10100408 ∷ 0xFFFF0001 ∷ 0x00010020 ∷ (sevens 31 ++ 0x7FFFFFFF ∷ [])) ++ blanks 64)
     ((weighs, weight 32 28)
-    ∷ (asks (write 0x0001 (sevens 31)) 0, answer (Done 0))
-    ∷ (asks (write 0x0001 (sevens 30)) 0, answer (Refused NoRoom))
-    ∷ (asks (write 0x0001 (sevens 27)) 0, answer (Refused NoRoom))
-    ∷ (asks (write 0x0002 []) 0, answer (Refused NoRoom))
-    ∷ (asks (write 0x0002 (zeros 33)) 0, answer (Refused BadLength))
-    ∷ (asks (write 0x7F00 (zeros 33)) 0, answer (Refused BadHandle))
-    ∷ (asks (delete 0x0001) 0, answer (Cut 0))
+    ∷ (asks (write 0x0001 (sevens 31)) 0, answer (Ok (Done 0)))
+    ∷ (asks (write 0x0001 (sevens 30)) 0, answer (Err NoRoom))
+    ∷ (asks (write 0x0001 (sevens 27)) 0, answer (Err NoRoom))
+    ∷ (asks (write 0x0002 []) 0, answer (Err NoRoom))
+    ∷ (asks (write 0x0002 (zeros 33)) 0, answer (Err BadLength))
+    ∷ (asks (write 0x7F00 (zeros 33)) 0, answer (Err BadHandle))
+    ∷ (asks (delete 0x0001) 0, answer (Ok (Cut 0)))
     ∷ [])
 
 -- searches over a seal that is data, an invalidated entry and a second page
@@ -108,15 +105,15 @@ abbrev sought : Case
 sought =
     refusing (small 2)
     (sheet (0x10100408 ∷ 0xFFFF0002 ∷ 0x00120002 ∷ 0x7FFFFFFF ∷ 0x00000001 ∷ 0x01130001 ∷ 0x7FFFFFFF ∷ []) ++ (sheet (0x10100408 ∷ 0xFFFF0102 ∷ 0x01140001 ∷ 0x7FFFFFFF ∷ []) ++ blanks 64))
-    ((searches 0x0000 0xFFFF 0 5, yields (Yielded.At 2 ∷ Yielded.At 5 ∷ Yielded.At 66 ∷ Yielded.Refused NotFound ∷ Yielded.Refused NotFound ∷ []))
-    ∷ (searches 0xFF00 0x01FF 0 3, yields (Yielded.At 5 ∷ Yielded.At 66 ∷ Yielded.Refused NotFound ∷ []))
-    ∷ (searches 0x0000 0x0000 4 1, yields (Yielded.At 5 ∷ []))
-    ∷ (searches 0x0000 0x0000 3 2, yields (Yielded.Refused BadPlace ∷ Yielded.Refused BadPlace ∷ []))
-    ∷ (searches 0x0000 0x0000 6 1, yields (Yielded.Refused BadPlace ∷ []))
-    ∷ (searches 0x0000 0x0000 130 1, yields (Yielded.Refused BadPlace ∷ []))
-    ∷ (reads 0x0012, reading (Reading.At 2 1) (0x7FFFFFFF ∷ []))
-    ∷ (reads 0x0114, reading (Reading.At 66 0) [])
-    ∷ (reads 0x0013, reading (Reading.Refused NotFound) [])
+    ((searches 0x0000 0xFFFF 0 5, yields (Ok 2 ∷ Ok 5 ∷ Ok 66 ∷ Err NotFound ∷ Err NotFound ∷ []))
+    ∷ (searches 0xFF00 0x01FF 0 3, yields (Ok 5 ∷ Ok 66 ∷ Err NotFound ∷ []))
+    ∷ (searches 0x0000 0x0000 4 1, yields (Ok 5 ∷ []))
+    ∷ (searches 0x0000 0x0000 3 2, yields (Err BadPlace ∷ Err BadPlace ∷ []))
+    ∷ (searches 0x0000 0x0000 6 1, yields (Err BadPlace ∷ []))
+    ∷ (searches 0x0000 0x0000 130 1, yields (Err BadPlace ∷ []))
+    ∷ (reads 0x0012, reading (Ok (record { place = 2; words = 1 })) (0x7FFFFFFF ∷ []))
+    ∷ (reads 0x0114, reading (Ok (record { place = 66; words = 0 })) [])
+    ∷ (reads 0x0013, reading (Err NotFound) [])
     ∷ [])
 
 -- room to the last word: the seal at P - 1
@@ -125,7 +122,7 @@ filled =
     record {
       area = small 2;
       start = sheet (0x10100408 ∷ 0xFFFF0002 ∷ 0x00000020 ∷ (sevens 31 ++ 0x7FFFFFFF ∷ [])) ++ (sheet (0x10100408 ∷ 0xFFFF0102 ∷ 0x7FFFFFFF ∷ []) ++ blanks 64);
-      steps = (asks (write 0x0002 (zeros 28)) enough, answer (Done 30)) ∷ (looks 0, page_is Sealed 63) ∷ (reads 0x0002, reading (Reading.At 34 28) (zeros 28)) ∷ [];
+      steps = (asks (write 0x0002 (zeros 28)) enough, answer (Ok (Done 30))) ∷ (looks 0, page_is Sealed 63) ∷ (reads 0x0002, reading (Ok (record { place = 34; words = 28 })) (zeros 28)) ∷ [];
       words = 0x10100408
           ∷ 0xFFFF0002
           ∷ 0x00000020
@@ -136,7 +133,7 @@ filled =
 abbrev seal_like : Case
 seal_like =
     refusing (small 1) (sheet (0x10100408 ∷ 0xFFFF0001 ∷ 0x00120003 ∷ 0x7FFFFFFF ∷ 0x00000000 ∷ 0x7FFFFFFF ∷ []) ++ blanks 64)
-    ((reads 0x0012, reading (Reading.At 2 2) (0x7FFFFFFF ∷ 0x00000000 ∷ [])) ∷ [])
+    ((reads 0x0012, reading (Ok (record { place = 2; words = 2 })) (0x7FFFFFFF ∷ 0x00000000 ∷ [])) ∷ [])
 
 -- ---- compaction of one page, with an old copy that moves: whole, and cut before R's word 1 and behind it
 abbrev full : List ℕ
@@ -148,10 +145,10 @@ compacted xs ws = record { area = small 1; start = full; steps = (looks 0, page_
 
 abbrev compactions : List Case
 compactions =
-    compacted ((asks (write 0x0012 (sevens 7)) enough, answer (Done 24)) ∷ (looks 0, page_is Sealed 13) ∷ (looks_up 0x0012, value (some (sevens 7))) ∷ [])
+    compacted ((asks (write 0x0012 (sevens 7)) enough, answer (Ok (Done 24))) ∷ (looks 0, page_is Sealed 13) ∷ (looks_up 0x0012, value (Some (sevens 7))) ∷ [])
     (sheet (0x10100408 ∷ 0xFFFF0001 ∷ 0x00000003 ∷ 0x00000005 ∷ 0x00000006 ∷ 0x00120008 ∷ (sevens 7 ++ 0x7FFFFFFF ∷ [])) ++ blanks 64)
-    ∷ compacted ((asks (write 0x0012 (sevens 7)) 5, answer (Cut 5)) ∷ (looks_at-R, R-is Unfinished) ∷ (asks recover enough, answer (Done 1)) ∷ []) full
-    ∷ compacted ((asks (write 0x0012 (sevens 7)) 8, answer (Cut 8)) ∷ (looks_at-R, R-is (Committed 0)) ∷ (looks 0, page_is Neither 5) ∷ [])
+    ∷ compacted ((asks (write 0x0012 (sevens 7)) 5, answer (Ok (Cut 5))) ∷ (looks_at-R, R-is Unfinished) ∷ (asks recover enough, answer (Ok (Done 1))) ∷ []) full
+    ∷ compacted ((asks (write 0x0012 (sevens 7)) 8, answer (Ok (Cut 8))) ∷ (looks_at-R, R-is (Committed 0)) ∷ (looks 0, page_is Neither 5) ∷ [])
     (0xFFFFFFFF ∷ 0xFFFFFFFF ∷ 0x00120003 ∷ (blanks 61 ++ sheet (0x10100408 ∷ 0xFFFF0001 ∷ 0x00120003 ∷ 0x00000005 ∷ 0x00000006 ∷ 0x7FFFFFFF ∷ [])))
     ∷ []
 
@@ -163,7 +160,7 @@ chosen =
     record {
       area = small 3;
       start = p ++ (q 0xFFFF0103 ++ (q 0xFFFF0203 ++ blanks 64));
-      steps = (asks (write 0x0003 (sevens 10)) 3, answer (Cut 3)) ∷ (looks_at-R, R-is (Committed 1)) ∷ [];
+      steps = (asks (write 0x0003 (sevens 10)) 3, answer (Ok (Cut 3))) ∷ (looks_at-R, R-is (Committed 1)) ∷ [];
       words = p ++ (q 0xFFFF0103 ++ (q 0xFFFF0203 ++ sheet (0x10100408 ∷ 0xFFFF0103 ∷ 0x7FFFFFFF ∷ [])));
     }
 
@@ -178,7 +175,7 @@ restored xs ws =
     record {
       area = small 2;
       start = p ++ (zeros 64 ++ sheet (0x10100408 ∷ 0xFFFF0102 ∷ held));
-      steps = (looks_at-R, R-is (Committed 1)) ∷ (reads 0x0005, reading (Reading.Refused Unready) []) ∷ xs;
+      steps = (looks_at-R, R-is (Committed 1)) ∷ (reads 0x0005, reading (Err Unready) []) ∷ xs;
       words = p ++ ws;
     }
 
@@ -188,7 +185,7 @@ rewritten =
     record {
       area = small 1;
       start = sheet (0x10100408 ∷ 0xFFFF0001 ∷ 0x7FFFFFFF ∷ []) ++ sheet (0x10100408 ∷ 0xFFFF0001 ∷ 0x00120001 ∷ 0x7FFFFFFF ∷ []);
-      steps = (asks recover enough, answer (Done 6)) ∷ [];
+      steps = (asks recover enough, answer (Ok (Done 6))) ∷ [];
       words = sheet (0x10100408 ∷ 0xFFFF0001 ∷ 0x00120001 ∷ 0x7FFFFFFF ∷ []) ++ blanks 64;
     }
 
@@ -198,7 +195,7 @@ torn_pages =
     record {
       area = small 3;
       start = sheet (0x10100408 ∷ 0xFFFF0003 ∷ 0x00050001 ∷ 0x00060002 ∷ 0x00000007 ∷ []) ++ (sheet (0x10100408 ∷ 0xFFFF0103 ∷ []) ++ (sheet (0x10100408 ∷ 0xFFFF0203 ∷ 0x00000001 ∷ []) ++ blanks 64));
-      steps = (looks 0, page_is Torn 5) ∷ (asks recover 3, answer (Cut 3)) ∷ (looks 2, page_is Torn 3) ∷ (asks recover enough, answer (Done 1)) ∷ [];
+      steps = (looks 0, page_is Torn 5) ∷ (asks recover 3, answer (Ok (Cut 3))) ∷ (looks 2, page_is Torn 3) ∷ (asks recover enough, answer (Ok (Done 1))) ∷ [];
       words = sheet (0x10100408 ∷ 0xFFFF0003 ∷ 0x00050001 ∷ 0x00000002 ∷ 0x00000007 ∷ 0x7FFFFFFF ∷ []) ++ (sheet (0x10100408 ∷ 0xFFFF0103 ∷ 0x7FFFFFFF ∷ []) ++ (sheet (0x10100408 ∷ 0xFFFF0203 ∷ 0x00000001 ∷ 0x7FFFFFFF ∷ []) ++ blanks 64));
     }
 
@@ -207,15 +204,15 @@ thrice =
     record {
       area = small 3;
       start = sheet (0x10100408 ∷ 0xFFFF0003 ∷ 0x00050001 ∷ 0x7FFFFFFF ∷ []) ++ (sheet (0x10100408 ∷ 0xFFFF0103 ∷ 0x00060001 ∷ 0x00050001 ∷ 0x7FFFFFFF ∷ []) ++ (sheet (0x10100408 ∷ 0xFFFF0203 ∷ 0x00050001 ∷ 0x7FFFFFFF ∷ []) ++ blanks 64));
-      steps = (asks recover enough, answer (Done 2)) ∷ (asks recover 0, answer (Done 0)) ∷ [];
+      steps = (asks recover enough, answer (Ok (Done 2))) ∷ (asks recover 0, answer (Ok (Done 0))) ∷ [];
       words = sheet (0x10100408 ∷ 0xFFFF0003 ∷ 0x00000001 ∷ 0x7FFFFFFF ∷ []) ++ (sheet (0x10100408 ∷ 0xFFFF0103 ∷ 0x00060001 ∷ 0x00000001 ∷ 0x7FFFFFFF ∷ []) ++ (sheet (0x10100408 ∷ 0xFFFF0203 ∷ 0x00050001 ∷ 0x7FFFFFFF ∷ []) ++ blanks 64));
     }
 
 abbrev recoveries : List Case
 recoveries =
-    restored ((asks recover enough, answer (Done 9)) ∷ (reads 0x0005, reading (Reading.At 66 1) (0x7FFFFFFF ∷ [])) ∷ [])
+    restored ((asks recover enough, answer (Ok (Done 9))) ∷ (reads 0x0005, reading (Ok (record { place = 66; words = 1 })) (0x7FFFFFFF ∷ [])) ∷ [])
     (sheet (0x10100408 ∷ 0xFFFF0102 ∷ held) ++ blanks 64)
-    ∷ restored ((asks recover 6, answer (Cut 6)) ∷ []) (sheet (0xFFFFFFFF ∷ 0xFFFFFFFF ∷ held) ++ sheet (0x10100408 ∷ 0xFFFF0102 ∷ held))
+    ∷ restored ((asks recover 6, answer (Ok (Cut 6))) ∷ []) (sheet (0xFFFFFFFF ∷ 0xFFFFFFFF ∷ held) ++ sheet (0x10100408 ∷ 0xFFFF0102 ∷ held))
     ∷ rewritten
     ∷ torn_pages
     ∷ thrice
@@ -232,11 +229,11 @@ edges = refl
 abbrev told : Reading → List ℕ
 told r = reading_number r ∷ reading_stores r ∷ reading_place r ∷ reading_words r ∷ []
 
-pub reads_tell : map told (Reading.At 2 1 ∷ Reading.Refused Damaged ∷ Reading.Refused NotFound ∷ []) ≡ (0 ∷ 0 ∷ 2 ∷ 1 ∷ []) ∷ (2 ∷ 0 ∷ 0 ∷ 0 ∷ []) ∷ (6 ∷ 0 ∷ 0 ∷ 0 ∷ []) ∷ []
+pub reads_tell : map told (Ok (record { place = 2; words = 1 }) ∷ Err Damaged ∷ Err NotFound ∷ []) ≡ (0 ∷ 0 ∷ 2 ∷ 1 ∷ []) ∷ (2 ∷ 0 ∷ 0 ∷ 0 ∷ []) ∷ (6 ∷ 0 ∷ 0 ∷ 0 ∷ []) ∷ []
 reads_tell = refl
 
 abbrev stepped : Yielded → List ℕ
 stepped y = yielded_number y ∷ yielded_stores y ∷ yielded_place y ∷ []
 
-pub searches_tell : map stepped (Yielded.At 5 ∷ Yielded.Refused BadPlace ∷ []) ≡ (0 ∷ 0 ∷ 5 ∷ []) ∷ (9 ∷ 0 ∷ 0 ∷ []) ∷ []
+pub searches_tell : map stepped (Ok 5 ∷ Err BadPlace ∷ []) ≡ (0 ∷ 0 ∷ 5 ∷ []) ∷ (9 ∷ 0 ∷ 0 ∷ []) ∷ []
 searches_tell = refl

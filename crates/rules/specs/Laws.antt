@@ -1,6 +1,6 @@
 -- Laws of the definitions: page sizes, headers, where the walk stops, live words, and answers against the stores made.
 -- Assumes nothing.
-use Rattle.std.specs.Prelude.{◌≡◌, refl, List, [], ◌∷◌, ◌++◌, Bool, true, false, cond, ◌&&◌, ◌||◌, ℕ, suc, zero, ◌+◌, ◌-◌, ◌*◌, ◌^◌, ◌≤◌, ◌<◌, length, get_or, take, drop, leb, ltb, eqb}
+use Rattle.std.specs.Prelude.{◌≡◌, refl, List, [], ◌∷◌, ◌++◌, Bool, true, false, cond, ◌&&◌, ◌||◌, ℕ, suc, zero, ◌+◌, ◌-◌, ◌*◌, ◌^◌, ◌≤◌, ◌<◌, length, get_or, take, drop, leb, ltb, eqb, Some, Ok}
 use Rattle.std.proofs.Common.{ap, sym, ◌∙◌, true≢false, ⊎_elim, arith, mod-eq_of_lt, length-take, length-drop, leb-true, eqb-true, le-leb, le-ltb, lt-ltb}
 use Rattle.std.proofs.lemmas.Bool.{false≢true, lt-leb}
 use Rattle.std.specs.Int.Bits.{bit_and}
@@ -10,13 +10,12 @@ use Rattle.flash.specs.Stores.{Store, made_first, spent, Ran}
 use Rattle.flash.specs.Laws.{le_or_lt}
 use Rattle.rules.specs.declared.PageSize.{PageSize}
 use Rattle.rules.specs.declared.PageSize.TheVariants.{Small, Medium, Large}
-use Rattle.rules.specs.declared.FoundSize.{FoundSize}
 use Rattle.rules.specs.declared.Refusal.{Refusal}
-use Rattle.rules.specs.declared.Answer.{Answer}
 use Rattle.rules.specs.Words.{words_of, size_of, longest, header, handle_of, length_of, special, seal}
 use Rattle.rules.specs.Walk.{begins, Item, entry_length, walk_in, rest, stop}
 use Rattle.rules.specs.Areas.{Entry, placed, live_words}
-use Rattle.rules.specs.Refusals.{answer_stores, checked, list, outcome_of}
+use Rattle.rules.specs.Refusals.{answer_stores, checked, list, outcome_of, Answer}
+use Rattle.rules.specs.declared.Made.{Made}
 
 -- ---- tests
 pub and_left : (a b : Bool) → a && b ≡ true → a ≡ true
@@ -36,12 +35,12 @@ nor_right true b e = absurd (true≢false e)
 nor_right false b e = e
 
 -- ---- page sizes: the size that is found for P is the one of P words
-pub words_size : (s : PageSize) → size_of (words_of s) ≡ FoundSize.Is s
+pub words_size : (s : PageSize) → size_of (words_of s) ≡ Some s
 words_size Small = refl
 words_size Medium = refl
 words_size Large = refl
 
-pub size_words : (P : ℕ) (s : PageSize) → size_of P ≡ FoundSize.Is s → words_of s ≡ P
+pub size_words : (P : ℕ) (s : PageSize) → size_of P ≡ Some s → words_of s ≡ P
 size_words P s e = small (eqb P 64) refl
   where
     large : (t : Bool) → eqb P 1024 ≡ t → eqb P 64 ≡ false → eqb P 256 ≡ false → words_of s ≡ P
@@ -133,7 +132,7 @@ stores_made ss k f = ⊎_elim enough short (le_or_lt (length ss) k)
 
 -- the answer of a run that was given power for k stores, by the power that is left
 abbrev pub answer_of : ℕ → Power → Answer
-answer_of k q = cond q.cut (Answer.Cut (k - q.left)) (Answer.Done (k - q.left))
+answer_of k q = cond q.cut (Ok (Made.Cut (k - q.left))) (Ok (Made.Done (k - q.left)))
 
 answer_spent : (ss : List Store) (k : ℕ) (f : List ℕ)
     → (outcome_of (list ss) k f).answer ≡ answer_of k (spent (record { left = k; cut = false }) (length ss))

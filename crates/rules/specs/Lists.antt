@@ -1,6 +1,5 @@
 -- The lists of stores: document 01, "The lists of stores". Definitions alone. Assumes nothing.
-use Rattle.std.specs.Prelude.{List, [], ◌∷◌, ◌++◌, Bool, cond, ℕ, suc, zero, ◌+◌, ◌-◌, take, drop, leb}
-use Rattle.std.proofs.Math.Option.{Option, some, none}
+use Rattle.std.specs.Prelude.{List, [], ◌∷◌, ◌++◌, Bool, cond, ℕ, suc, zero, ◌+◌, ◌-◌, take, drop, leb, Option, Some, None}
 use Rattle.flash.specs.Stores.{Store, put, wipe, puts, Step, ◌then◌, each}
 use Rattle.rules.specs.declared.Area.{Area}
 use Rattle.rules.specs.declared.Kind.{Kind}
@@ -34,8 +33,8 @@ format_plan a f = checked refuse (format_checks a f) (list (format_list a f))
 
 -- ---- delete
 abbrev pub bare_if : Option Entry → List Store
-bare_if none = []
-bare_if (some e) = bare e ∷ []
+bare_if None = []
+bare_if (Some e) = bare e ∷ []
 
 abbrev pub delete_list : Area → ℕ → Step
 delete_list a h f = bare_if (find h (entries a f))
@@ -66,8 +65,8 @@ compact a i f = let ws = live_codes a f i ++ seal ∷ [] in copy_to a (R a) i ws
 -- ---- write
 -- the lowest page that passes a test, of n pages from the index i on
 abbrev pub lowest : (ℕ → Bool) → ℕ → ℕ → Option ℕ
-lowest t zero i = none
-lowest t (suc n) i = cond (t i) (some i) (lowest t n (suc i))
+lowest t zero i = None
+lowest t (suc n) i = cond (t i) (Some i) (lowest t n (suc i))
 
 -- whether the seal of page i leaves the room for an entry of l words, and the lowest page whose seal does
 unfoldable pub leaves_room : Area → List ℕ → ℕ → ℕ → Bool
@@ -89,12 +88,12 @@ append a h d i f = puts (base a i + stop (page a f i)) (header h (entry_length d
 
 -- within the quota there is always such a page
 abbrev pub append_compacted : Area → ℕ → List ℕ → Option ℕ → Step
-append_compacted a h d none f = []
-append_compacted a h d (some i) f = (compact a i then append a h d i) f
+append_compacted a h d None f = []
+append_compacted a h d (Some i) f = (compact a i then append a h d i) f
 
 abbrev pub append_to : Area → ℕ → List ℕ → Option ℕ → Step
-append_to a h d none f = append_compacted a h d (compact_page a f (entry_length d)) f
-append_to a h d (some i) f = append a h d i f
+append_to a h d None f = append_compacted a h d (compact_page a f (entry_length d)) f
+append_to a h d (Some i) f = append a h d i f
 
 abbrev pub write_list : Area → ℕ → List ℕ → Step
 write_list a h d f = cond (holds a f h d) [] (append_to a h d (room_page a f (entry_length d)) f)
@@ -115,13 +114,13 @@ finish a f = finish_as (recovery a f) a f
 
 -- (b), of one page
 abbrev pub last_of : List Entry → Option Entry
-last_of [] = none
-last_of (e ∷ []) = some e
+last_of [] = None
+last_of (e ∷ []) = Some e
 last_of (e ∷ (d ∷ es)) = last_of (d ∷ es)
 
 abbrev pub bare_if_live : Option Entry → List Store
-bare_if_live none = []
-bare_if_live (some e) = cond (is_live e.handle) (bare e ∷ []) []
+bare_if_live None = []
+bare_if_live (Some e) = cond (is_live e.handle) (bare e ∷ []) []
 
 abbrev pub mend_as : Kind → Area → ℕ → Step
 mend_as Sealed a i f = []

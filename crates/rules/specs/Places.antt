@@ -1,5 +1,5 @@
 -- Where pages stand in a run, and what a right geometry gives: laws. Assumes nothing.
-use Rattle.std.specs.Prelude.{◌≡◌, refl, List, Bool, true, false, ◌&&◌, ◌||◌, ◌⊎◌, ℕ, suc, ◌+◌, ◌*◌, ◌≤◌, ◌<◌, length, get_or, take, drop, leb, eqb}
+use Rattle.std.specs.Prelude.{◌≡◌, refl, List, Bool, true, false, ◌&&◌, ◌||◌, ◌⊎◌, ℕ, suc, ◌+◌, ◌*◌, ◌≤◌, ◌<◌, length, get_or, take, drop, leb, eqb, Option, Some, None}
 use Rattle.std.proofs.Math.Path.{ap}
 use Rattle.std.proofs.Common.{sym, ◌∙◌, inl, inr, suc-le-suc, arith, suc-mul, zero-mul, mul-le-mul_right, add-one, length-take, length-drop, get_or-take, get_or-drop, length-take-le, take-add, drop_at, drop-drop}
 use Rattle.std.proofs.Math.Bool.{not}
@@ -12,7 +12,6 @@ use Rattle.flash.specs.Laws.{ran_length}
 use Rattle.rules.specs.declared.Area.{Area}
 use Rattle.rules.specs.declared.PageSize.{PageSize}
 use Rattle.rules.specs.declared.PageSize.TheVariants.{Small, Medium, Large}
-use Rattle.rules.specs.declared.FoundSize.{FoundSize}
 use Rattle.rules.specs.Words.{words_of, size_of}
 use Rattle.rules.specs.Areas.{base, page}
 use Rattle.rules.specs.Refusals.{is_listed, wrong_geometry}
@@ -67,9 +66,9 @@ listed_size P e = go (size_of P) refl
     one Medium q = inr (inl (sym q))
     one Large q = inr (inr (sym q))
 
-    go : (s : FoundSize) → size_of P ≡ s → (P ≡ 64) ⊎ ((P ≡ 256) ⊎ (P ≡ 1024))
-    go (FoundSize.Is s) q = one s (size_words P s q)
-    go FoundSize.None q = absurd (false≢true (sym (ap is_listed q) ∙ e))
+    go : (s : Option PageSize) → size_of P ≡ s → (P ≡ 64) ⊎ ((P ≡ 256) ⊎ (P ≡ 1024))
+    go (Some s) q = one s (size_words P s q)
+    go None q = absurd (false≢true (sym (ap is_listed q) ∙ e))
 
 module _ (a : Area) (f : List ℕ) (e : wrong_geometry a f ≡ false) where
   abbrev few : Bool

@@ -1,18 +1,29 @@
 -- The numbers and values of answers, when each refusal is given, the order of checks, and outcomes under power: document 01, "Refusal
 -- numbers". BADFRAME is the console's. Definitions alone. Assumes nothing.
-use Rattle.std.specs.Prelude.{List, [], ◌∷◌, Bool, true, false, cond, not, ◌&&◌, ◌||◌, ℕ, ◌+◌, ◌*◌, length, leb, ltb, eqb}
-use Rattle.std.proofs.Math.Option.{Option, some, none}
+use Rattle.std.specs.Prelude.{List, [], ◌∷◌, Bool, true, false, cond, not, ◌&&◌, ◌||◌, ℕ, ◌+◌, ◌*◌, length, leb, ltb, eqb, Option, Some, None, is_none, Result, Ok, Err}
 use Rattle.flash.specs.Stores.{Store, made_first}
 use Rattle.rules.specs.declared.Area.{Area}
-use Rattle.rules.specs.declared.FoundSize.{FoundSize}
 use Rattle.rules.specs.declared.Refusal.{Refusal}
 use Rattle.rules.specs.declared.Refusal.TheVariants.{Geometry, Damaged, Unready, BadHandle, BadLength, NotFound, NoRoom, BadPlace}
-use Rattle.rules.specs.declared.Answer.{Answer}
-use Rattle.rules.specs.declared.Reading.{Reading}
-use Rattle.rules.specs.declared.Yielded.{Yielded}
 use Rattle.rules.specs.Words.{size_of, quota, special}
 use Rattle.rules.specs.Walk.{entry_length}
 use Rattle.rules.specs.Areas.{Entry, entries, find, map_of, damaged, ready, live_words}
+use Rattle.rules.specs.declared.Made.{Made}
+use Rattle.rules.specs.declared.Found.{Found}
+use Rattle.rules.specs.declared.PageSize.{PageSize}
+
+-- ---- what requests answer
+-- format, recover, write, delete
+abbrev pub Answer : Type 0
+Answer = Result Made Refusal
+
+-- read
+abbrev pub Reading : Type 0
+Reading = Result Found Refusal
+
+-- a step of a search
+abbrev pub Yielded : Type 0
+Yielded = Result ℕ Refusal
 
 -- ---- numbers and values
 abbrev pub refusal_number : Refusal → ℕ
@@ -27,47 +38,50 @@ refusal_number BadPlace = 0x09
 
 -- format, recover, write, delete
 abbrev pub answer_number : Answer → ℕ
-answer_number (Answer.Done s) = 0x00
-answer_number (Answer.Cut s) = 0x08
-answer_number (Answer.Refused n) = refusal_number n
+answer_number (Ok (Made.Done s)) = 0x00
+answer_number (Ok (Made.Cut s)) = 0x08
+answer_number (Err n) = refusal_number n
 
 abbrev pub answer_stores : Answer → ℕ
-answer_stores (Answer.Done s) = s
-answer_stores (Answer.Cut s) = s
-answer_stores (Answer.Refused n) = 0
+answer_stores (Ok (Made.Done s)) = s
+answer_stores (Ok (Made.Cut s)) = s
+answer_stores (Err n) = 0
+
+-- of an answer that is never CUT
+abbrev pub number_of : {T : Type 0} → Result T Refusal → ℕ
+number_of (Ok x) = 0x00
+number_of (Err n) = refusal_number n
 
 -- read
 abbrev pub reading_number : Reading → ℕ
-reading_number (Reading.At p n) = 0x00
-reading_number (Reading.Refused n) = refusal_number n
+reading_number r = number_of r
 
 abbrev pub reading_stores : Reading → ℕ
 reading_stores r = 0
 
 abbrev pub reading_place : Reading → ℕ
-reading_place (Reading.At p n) = p
-reading_place (Reading.Refused n) = 0
+reading_place (Ok d) = d.place
+reading_place (Err n) = 0
 
 abbrev pub reading_words : Reading → ℕ
-reading_words (Reading.At p n) = n
-reading_words (Reading.Refused n) = 0
+reading_words (Ok d) = d.words
+reading_words (Err n) = 0
 
 -- a step of a search
 abbrev pub yielded_number : Yielded → ℕ
-yielded_number (Yielded.At p) = 0x00
-yielded_number (Yielded.Refused n) = refusal_number n
+yielded_number y = number_of y
 
 abbrev pub yielded_stores : Yielded → ℕ
 yielded_stores y = 0
 
 abbrev pub yielded_place : Yielded → ℕ
-yielded_place (Yielded.At p) = p
-yielded_place (Yielded.Refused n) = 0
+yielded_place (Ok p) = p
+yielded_place (Err n) = 0
 
 -- ---- when each is given; DAMAGED is `damaged`, BADPLACE stands with search
-abbrev pub is_listed : FoundSize → Bool
-is_listed (FoundSize.Is s) = true
-is_listed FoundSize.None = false
+abbrev pub is_listed : Option PageSize → Bool
+is_listed (Some s) = true
+is_listed None = false
 
 -- GEOMETRY
 unfoldable pub wrong_geometry : Area → List ℕ → Bool
@@ -86,11 +100,6 @@ bad_handle h = eqb h 0 || leb special h
 abbrev pub bad_length : List ℕ → Bool
 bad_length d = ltb 32 (length d)
 
--- NOTFOUND, of the entry that is looked for
-abbrev pub is_none : Option Entry → Bool
-is_none none = true
-is_none (some e) = false
-
 abbrev pub same_words : List ℕ → List ℕ → Bool
 same_words [] [] = true
 same_words [] (y ∷ ys) = false
@@ -98,8 +107,8 @@ same_words (x ∷ xs) [] = false
 same_words (x ∷ xs) (y ∷ ys) = eqb x y && same_words xs ys
 
 abbrev pub is_data : Option (List ℕ) → List ℕ → Bool
-is_data none d = false
-is_data (some v) d = same_words v d
+is_data None d = false
+is_data (Some v) d = same_words v d
 
 -- whether the handle h already holds the data d
 unfoldable pub holds : Area → List ℕ → ℕ → List ℕ → Bool
@@ -147,9 +156,9 @@ pub record Outcome : Type 0 where
 
 -- with power for k stores
 abbrev pub outcome_of : Plan → ℕ → List ℕ → Outcome
-outcome_of (refuse n) k f = record { answer = Answer.Refused n; flash = f }
+outcome_of (refuse n) k f = record { answer = Err n; flash = f }
 outcome_of (list ss) k f =
-    record { answer = cond (leb (length ss) k) (Answer.Done (length ss)) (Answer.Cut k); flash = made_first k ss f }
+    record { answer = cond (leb (length ss) k) (Ok (Made.Done (length ss))) (Ok (Made.Cut k)); flash = made_first k ss f }
 
 abbrev pub outcome : (List ℕ → Plan) → ℕ → List ℕ → Outcome
 outcome plan k f = outcome_of (plan f) k f

@@ -1,27 +1,24 @@
 -- Read and search: document 01, "Search". Definitions alone. Assumes nothing.
-use Rattle.std.specs.Prelude.{List, [], ◌∷◌, Bool, not, ◌&&◌, ℕ, length, ltb, eqb}
-use Rattle.std.proofs.Math.Option.{Option, some, none}
+use Rattle.std.specs.Prelude.{List, [], ◌∷◌, Bool, not, ◌&&◌, ℕ, length, ltb, eqb, Option, Some, None, Ok, Err, is_none}
 use Rattle.std.specs.Int.Bits.{bit_and}
 use Rattle.rules.specs.declared.Area.{Area}
 use Rattle.rules.specs.declared.Refusal.{Refusal}
 use Rattle.rules.specs.declared.Refusal.TheVariants.{NotFound, BadPlace}
-use Rattle.rules.specs.declared.Reading.{Reading}
-use Rattle.rules.specs.declared.Yielded.{Yielded}
 use Rattle.rules.specs.Words.{is_live}
 use Rattle.rules.specs.Areas.{Entry, entries, any_of, first_of, find}
-use Rattle.rules.specs.Refusals.{is_none, checked, ready_checks, find_checks}
+use Rattle.rules.specs.Refusals.{checked, ready_checks, find_checks, Reading, Yielded}
 
 abbrev pub place_of : Option Entry → ℕ
-place_of none = 0
-place_of (some e) = e.place
+place_of None = 0
+place_of (Some e) = e.place
 
 abbrev pub data_length : Option Entry → ℕ
-data_length none = 0
-data_length (some e) = length e.words
+data_length None = 0
+data_length (Some e) = length e.words
 
 -- ---- read
 abbrev pub read_of : Area → ℕ → List ℕ → Reading
-read_of a h f = let e = find h (entries a f) in checked Reading.Refused (find_checks a f h) (Reading.At (place_of e) (data_length e))
+read_of a h f = let e = find h (entries a f) in checked Err (find_checks a f h) (Ok (record { place = place_of e; words = data_length e }))
 
 -- ---- search
 -- the filter
@@ -49,7 +46,7 @@ search_checks a f mask pattern place = ready_checks a f ((bad_place a f place, B
 
 -- from a place
 abbrev pub search_of : Area → ℕ → ℕ → ℕ → List ℕ → Yielded
-search_of a mask pattern place f = checked Yielded.Refused (search_checks a f mask pattern place) (Yielded.At (place_of (next a f mask pattern place)))
+search_of a mask pattern place f = checked Err (search_checks a f mask pattern place) (Ok (place_of (next a f mask pattern place)))
 
 -- ---- the object: the area that it was opened on, with its run, the filter, and the place that it has reached
 pub record Search : Type 0 where
@@ -64,8 +61,8 @@ abbrev pub step_of : Search → Yielded
 step_of s = search_of s.area s.mask s.pattern s.place s.run
 
 abbrev pub place_after : ℕ → Yielded → ℕ
-place_after p (Yielded.At q) = q
-place_after p (Yielded.Refused n) = p
+place_after p (Ok q) = q
+place_after p (Err n) = p
 
 abbrev pub moved : Search → Search
 moved s = record { area = s.area; run = s.run; mask = s.mask; pattern = s.pattern; place = place_after s.place (step_of s) }

@@ -1,8 +1,7 @@
 -- Page sizes, metadata and entry headers: document 01, "Words, pages, area". Definitions alone. Assumes nothing.
-use Rattle.std.specs.Prelude.{Bool, cond, not, ℕ, ◌+◌, ◌-◌, ◌*◌, ◌/◌, ◌%◌, eqb}
+use Rattle.std.specs.Prelude.{Bool, cond, not, ℕ, ◌+◌, ◌-◌, ◌*◌, ◌/◌, ◌%◌, eqb, Option, Some, None}
 use Rattle.rules.specs.declared.PageSize.{PageSize}
 use Rattle.rules.specs.declared.PageSize.TheVariants.{Small, Medium, Large}
-use Rattle.rules.specs.declared.FoundSize.{FoundSize}
 
 -- ---- page sizes
 -- P
@@ -11,9 +10,9 @@ words_of Small = 64
 words_of Medium = 256
 words_of Large = 1024
 
-abbrev pub size_of : ℕ → FoundSize
+abbrev pub size_of : ℕ → Option PageSize
 size_of P =
-    cond (eqb P 64) (FoundSize.Is Small) (cond (eqb P 256) (FoundSize.Is Medium) (cond (eqb P 1024) (FoundSize.Is Large) FoundSize.None))
+    cond (eqb P 64) (Some Small) (cond (eqb P 256) (Some Medium) (cond (eqb P 1024) (Some Large) None))
 
 -- D
 abbrev pub open_words : ℕ → ℕ

@@ -6,7 +6,7 @@
 
 ghost use Rattle.std.specs.Prelude.{◌≡◌, ◌≤◌};
 ghost use Rattle.rules.specs.Words.{words_of, size_of, open_words, quota, last_seal};
-ghost use Rattle.rules.specs.Refusals.{refusal_number, answer_number, answer_stores, reading_number, reading_place, reading_words, yielded_number, yielded_place};
+ghost use Rattle.rules.specs.Refusals.{refusal_number, answer_number, answer_stores, number_of, reading_place, reading_words, yielded_place};
 
 // A page's word 0.
 pub const META0: u32 = 0x1010_0408;
@@ -17,25 +17,18 @@ pub const SPECIAL: u32 = 0x7F00;
 
 // An area: so many pages of so many words each, and behind them the recovery page. Any numbers may
 // stand here; GEOMETRY judges them.
-#[derive(Clone, Copy)]
+#[derive(Clone, Copy, PartialEq, Eq)]
 pub struct Area {
     pub pages: usize,
     pub words: usize,
 }
 
 // A page of 64, 256 or 1,024 words.
-#[derive(Clone, Copy)]
+#[derive(Clone, Copy, PartialEq, Eq)]
 pub enum PageSize {
     Small,
     Medium,
     Large,
-}
-
-// The page size that has a number of words, if one has.
-#[derive(Clone, Copy)]
-pub enum FoundSize {
-    Is(PageSize),
-    None,
 }
 
 impl PageSize {
@@ -44,20 +37,16 @@ impl PageSize {
     // The words of the longest entry, its header among them.
     pub const LONGEST: usize = 33;
 
-    // The page size of so many words.
-    pub fn of(words: usize) -> FoundSize
+    // The page size that has so many words, if one has.
+    pub fn of(words: usize) -> Option<PageSize>
         ensures { result ≡ size_of words }
     {
-        if words == 64 {
-            return FoundSize::Is(PageSize::Small);
+        match words {
+            64 => Some(PageSize::Small),
+            256 => Some(PageSize::Medium),
+            1024 => Some(PageSize::Large),
+            _ => None,
         }
-        if words == 256 {
-            return FoundSize::Is(PageSize::Medium);
-        }
-        if words == 1024 {
-            return FoundSize::Is(PageSize::Large);
-        }
-        FoundSize::None
     }
 
     // P, the words of a page.
@@ -94,7 +83,7 @@ impl PageSize {
 }
 
 // What a page is, by its metadata and the end of its walk.
-#[derive(Clone, Copy)]
+#[derive(Clone, Copy, PartialEq, Eq)]
 pub enum Kind {
     Sealed,
     Torn,
@@ -102,7 +91,7 @@ pub enum Kind {
 }
 
 // What the recovery page is; a committed one names the index of a page.
-#[derive(Clone, Copy)]
+#[derive(Clone, Copy, PartialEq, Eq)]
 pub enum Recovery {
     Free,
     Unfinished,
@@ -111,7 +100,7 @@ pub enum Recovery {
 }
 
 // Why a request was refused, by the names of document 01's table.
-#[derive(Clone, Copy)]
+#[derive(Clone, Copy, PartialEq, Eq)]
 pub enum Refusal {
     Geometry,
     Damaged,
@@ -141,104 +130,79 @@ impl Refusal {
     }
 }
 
-// What a format, a recovery, a write or a delete answers: DONE or CUT with the stores made, or a
-// refusal, which made none.
-#[derive(Clone, Copy)]
-pub enum Answer {
+// The stores that a request made: all of its list, or those that the power was given for.
+#[derive(Clone, Copy, PartialEq, Eq)]
+pub enum Made {
     Done(u32),
     Cut(u32),
-    Refused(Refusal),
 }
 
-impl Answer {
-    // Its number in document 01's table.
-    pub fn number(self) -> u8
-        ensures { result ≡ answer_number self }
-    {
-        match self {
-            Answer::Done(_) => 0,
-            Answer::Cut(_) => 8,
-            Answer::Refused(why) => why.number(),
-        }
-    }
-
-    // The stores made, 0 if refused.
-    pub fn stores(self) -> u32
-        ensures { result ≡ answer_stores self }
-    {
-        match self {
-            Answer::Done(made) => made,
-            Answer::Cut(made) => made,
-            Answer::Refused(_) => 0,
-        }
-    }
+// An entry that was found: the place of its header in the run, one word before its data, and the
+// number of its data words.
+#[derive(Clone, Copy, PartialEq, Eq)]
+pub struct Found {
+    pub place: usize,
+    pub words: usize,
 }
 
-// What a read answers: the place of the entry's header in the run, one word before its data, and
-// the number of its data words; or a refusal.
-#[derive(Clone, Copy)]
-pub enum Reading {
-    At { place: usize, words: usize },
-    Refused(Refusal),
-}
+// What a format, a recovery, a write or a delete answers: DONE or CUT with the stores made, or a
+// refusal, which made none.
+pub type Answer = Result<Made, Refusal>;
 
-impl Reading {
-    // Its number in document 01's table.
-    pub fn number(self) -> u8
-        ensures { result ≡ reading_number self }
-    {
-        match self {
-            Reading::At { place: _, words: _ } => 0,
-            Reading::Refused(why) => why.number(),
-        }
-    }
-
-    // The place of the entry's header in the run, 0 if refused.
-    pub fn place(self) -> usize
-        ensures { result ≡ reading_place self }
-    {
-        match self {
-            Reading::At { place, words: _ } => place,
-            Reading::Refused(_) => 0,
-        }
-    }
-
-    // The number of data words, 0 if refused.
-    pub fn words(self) -> usize
-        ensures { result ≡ reading_words self }
-    {
-        match self {
-            Reading::At { place: _, words } => words,
-            Reading::Refused(_) => 0,
-        }
-    }
-}
+// What a read answers: where the entry lies, or a refusal.
+pub type Reading = Result<Found, Refusal>;
 
 // What a step of a search yields: the place of the next match's header in the run, or a refusal.
-#[derive(Clone, Copy)]
-pub enum Yielded {
-    At(usize),
-    Refused(Refusal),
+pub type Yielded = Result<usize, Refusal>;
+
+// The number of an answer in document 01's table.
+pub fn answer_number(answer: Answer) -> u8
+    ensures { result ≡ answer_number answer }
+{
+    match answer {
+        Ok(Made::Done(_)) => 0,
+        Ok(Made::Cut(_)) => 8,
+        Err(refusal) => refusal.number(),
+    }
 }
 
-impl Yielded {
-    // Its number in document 01's table.
-    pub fn number(self) -> u8
-        ensures { result ≡ yielded_number self }
-    {
-        match self {
-            Yielded::At(_) => 0,
-            Yielded::Refused(why) => why.number(),
-        }
+// The stores made, 0 if refused.
+pub fn answer_stores(answer: Answer) -> u32
+    ensures { result ≡ answer_stores answer }
+{
+    match answer {
+        Ok(Made::Done(made)) | Ok(Made::Cut(made)) => made,
+        Err(_) => 0,
     }
+}
 
-    // The place of the match's header in the run, 0 if refused.
-    pub fn place(self) -> usize
-        ensures { result ≡ yielded_place self }
-    {
-        match self {
-            Yielded::At(place) => place,
-            Yielded::Refused(_) => 0,
-        }
+// The number of what a read answers or a search yields in document 01's table.
+pub fn number<T: Copy>(answer: Result<T, Refusal>) -> u8
+    ensures { result ≡ number_of answer }
+{
+    match answer {
+        Ok(_) => 0,
+        Err(why) => why.number(),
     }
+}
+
+// The place of the entry's header in the run, 0 if refused.
+pub fn reading_place(reading: Reading) -> usize
+    ensures { result ≡ reading_place reading }
+{
+    reading.map_or(0, |found| found.place)
+}
+
+// The number of data words, 0 if refused.
+pub fn reading_words(reading: Reading) -> usize
+    ensures { result ≡ reading_words reading }
+{
+    reading.map_or(0, |found| found.words)
+}
+
+// The place of the match's header in the run, 0 if refused.
+pub fn yielded_place(yielded: Yielded) -> usize
+    ensures { result ≡ yielded_place yielded }
+{
+    yielded.unwrap_or(0)
 }

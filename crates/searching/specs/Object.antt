@@ -2,9 +2,9 @@
 use Rattle.std.specs.Prelude.{◌≡◌, List, ℕ}
 use Rattle.std.specs.Borrow.{Bor}
 use Rattle.rules.specs.declared.Area.{Area}
-use Rattle.rules.specs.declared.Yielded.{Yielded}
 use Rattle.rules.specs.Search as rule
 use Rattle.searching.specs.declared.object.Search.{Search}
+use Rattle.rules.specs.Refusals.{Yielded}
 
 -- a search as the rules see it: the run is the words that it holds
 abbrev pub seen : Search → rule.Search

@@ -6,9 +6,7 @@
 
 ghost use Rattle.searching.specs.Searching.{Searches};
 
-use entries::Stepped;
-use rules::{Area, Refusal, Yielded};
-use survey::Surveyed;
+use rules::{Area, Yielded};
 
 pub mod object; // object.rt: a search as an object
 
@@ -19,14 +17,6 @@ pub mod object; // object.rt: a search as an object
 pub fn search(flash: &[u32], area: Area, mask: u16, pattern: u16, place: usize) -> Yielded
     ensures { Searches area mask pattern place flash.now result }
 {
-    match survey::survey(flash, area, 0, 0) {
-        Surveyed::Refused(why) => Yielded::Refused(why),
-        Surveyed::Ready(_) => {
-            match entries::step(flash, area, mask as u32, pattern as u32, place) {
-                Stepped::BadPlace => Yielded::Refused(Refusal::BadPlace),
-                Stepped::None => Yielded::Refused(Refusal::NotFound),
-                Stepped::At(at) => Yielded::At(at),
-            }
-        }
-    }
+    let _ready = survey::survey(flash, area, 0, 0)?;
+    entries::step(flash, area, u32::from(mask), u32::from(pattern), place)
 }

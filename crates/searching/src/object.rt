@@ -47,8 +47,5 @@ impl<'a> Search<'a> {
 fn place_after(place: usize, yielded: Yielded) -> usize
     ensures { result ≡ place_after place yielded }
 {
-    match yielded {
-        Yielded::At(next) => next,
-        Yielded::Refused(_) => place,
-    }
+    yielded.unwrap_or(place)
 }

@@ -2,7 +2,7 @@
 -- DAMAGED or BADPLACE, number and stores of every answer fit their digits, and nothing is CUT for which no power was named. Assumes nothing.
 use Rattle.std.proofs.Math.Path.{◌≡◌, refl}
 use Rattle.std.proofs.Common.{ap, sym, ◌∙◌, subst, true≢false, inl, inr, mul-le-mul_right, take_at, leb-true, leb-false, le-leb}
-use Rattle.std.specs.Prelude.{List, [], ◌∷◌, Bool, true, false, cond, ◌&&◌, ◌≢◌, ◌⊎◌, ℕ, suc, zero, ◌+◌, ◌*◌, ◌≤◌, length, get_or, drop, leb, eqb}
+use Rattle.std.specs.Prelude.{List, [], ◌∷◌, Bool, true, false, cond, ◌&&◌, ◌≢◌, ◌⊎◌, ℕ, suc, zero, ◌+◌, ◌*◌, ◌≤◌, length, get_or, drop, leb, eqb, Ok, Err}
 use Rattle.std.proofs.lemmas.Bool.{false≢true, eqb-false}
 use native.Mathlib.Omega.{arith}
 use Rattle.flash.specs.Stores.{blank, Words, none, more, Store, made}
@@ -10,10 +10,8 @@ use Rattle.flash.specs.Laws.{first_all}
 use Rattle.rules.specs.declared.Area.{Area}
 use Rattle.rules.specs.declared.Refusal.{Refusal}
 use Rattle.rules.specs.declared.Refusal.TheVariants.{Geometry, Damaged, Unready, BadHandle, BadLength, NotFound, NoRoom, BadPlace}
-use Rattle.rules.specs.declared.Reading.{Reading}
-use Rattle.rules.specs.declared.Yielded.{Yielded}
 use Rattle.rules.specs.Areas.{damaged}
-use Rattle.rules.specs.Refusals.{refusal_number, answer_number, answer_stores, wrong_geometry, checked, format_checks, recover_checks, write_checks, find_checks, Plan, refuse, list, outcome_of}
+use Rattle.rules.specs.Refusals.{refusal_number, answer_number, answer_stores, wrong_geometry, checked, format_checks, recover_checks, write_checks, find_checks, Plan, refuse, list, outcome_of, Reading, Yielded}
 use Rattle.rules.specs.Lists.{format_list, delete_list, write_list, recover_list, Request, format, recover, write, delete, plan_of}
 use Rattle.rules.specs.Search.{read_of, search_checks, search_of, bad_place}
 use Rattle.rules.specs.Laws.{and_left, and_right}
@@ -248,13 +246,13 @@ module _ {a : Area} {f : List ℕ} (v : Given a f) (h : a.pages ≤ 15) (d : dam
 
   read_fits : (u : ℕ) → Printable (read_reply (read_of a u f))
   read_fits u =
-      checks_allow (λ (x : Reading). Printable (read_reply x)) Reading.Refused (find_checks a f u) _ fits_refused (fits_done _)
+      checks_allow (λ (x : Reading). Printable (read_reply x)) Err (find_checks a f u) _ fits_refused (fits_done _)
       (inr refl, (inl d, (inr refl, (inr refl, (inr refl, tt)))))
 
   list_reply_fits : (s : Shape) (mask pattern : ℕ) → Printable (list_reply s mask pattern (search_of a mask pattern 0 f))
   unfolding bad_place
   list_reply_fits s mask pattern =
-      checks_allow (λ (y : Yielded). Printable (list_reply s mask pattern y)) Yielded.Refused (search_checks a f mask pattern 0) _ fits_refused (fits_done _)
+      checks_allow (λ (y : Yielded). Printable (list_reply s mask pattern y)) Err (search_checks a f mask pattern 0) _ fits_refused (fits_done _)
       (inr refl, (inl d, (inr refl, (inl refl, (inr refl, tt)))))
 
 -- of a line's
@@ -319,12 +317,12 @@ plan_uncut (refuse n) k f h = refusal_uncut n
 plan_uncut (list ss) k f h = rw (le-leb (length ss) k (h ss refl)) (λ e. omega arith)
 
 read_uncut : (x : Reading) → (read_reply x).number ≢ 0x08
-read_uncut (Reading.At p n) e = omega arith
-read_uncut (Reading.Refused n) e = refusal_uncut n e
+read_uncut (Ok d) e = omega arith
+read_uncut (Err n) e = refusal_uncut n e
 
 list_uncut : (a : Shape) (mask pattern : ℕ) (y : Yielded) → (list_reply a mask pattern y).number ≢ 0x08
-list_uncut a mask pattern (Yielded.At p) e = omega arith
-list_uncut a mask pattern (Yielded.Refused n) e = refusal_uncut n e
+list_uncut a mask pattern (Ok p) e = omega arith
+list_uncut a mask pattern (Err n) e = refusal_uncut n e
 
 format_uncut : (s : State) (f : List ℕ) (a : Shape) → a.pages ≤ 15 → (format_area s f a).reply.number ≢ 0x08
 format_uncut s f a h =

@@ -1,20 +1,17 @@
 -- A list and a read of the console against the rules: what a list says is what stepping a search from 0 gives, to the step that is
 -- refused; and what a read says is what the map holds. Assumes nothing.
-use Rattle.std.specs.Prelude.{◌≡◌, Bool, true, false, ◌⊎◌, ◌↔◌, ℕ, suc, zero, ◌+◌, ◌-◌, ◌*◌, ◌≤◌, ◌<◌, min, get_or, take, drop}
+use Rattle.std.specs.Prelude.{◌≡◌, Bool, true, false, ◌⊎◌, ◌↔◌, ℕ, suc, zero, ◌+◌, ◌-◌, ◌*◌, ◌≤◌, ◌<◌, min, get_or, take, drop, Some, None, Ok, Err}
 use Rattle.std.proofs.Math.Path.{refl, sym}
 use Rattle.std.proofs.Common.{ap, ap₂, ◌∙◌, subst, inl, inr, arith, le_refl, length-take, take_all, take-take, lt-ltb, le-ltb}
 use mathlib.Core.List.{List, [], ◌∷◌, ◌++◌, append_assoc, nil≢cons}
-use Rattle.std.proofs.Math.Option.{some, none}
 use Rattle.std.proofs.Math.ListN.{length}
 use Rattle.flash.specs.Stores.{Words}
 use Rattle.rules.specs.declared.Area.{Area}
 use Rattle.rules.specs.declared.Refusal.{Refusal}
 use Rattle.rules.specs.declared.Refusal.TheVariants.{Geometry, Damaged, Unready, BadHandle, BadLength, NotFound, NoRoom, BadPlace}
-use Rattle.rules.specs.declared.Reading.{Reading}
-use Rattle.rules.specs.declared.Yielded.{Yielded}
 use Rattle.rules.specs.Words.{handle_of}
 use Rattle.rules.specs.Areas.{Entry, base, page, entries, any_of, first_of, map_of, ready}
-use Rattle.rules.specs.Refusals.{refusal_number, yielded_number, wrong_geometry, find_checks}
+use Rattle.rules.specs.Refusals.{refusal_number, yielded_number, wrong_geometry, find_checks, Reading, Yielded}
 use Rattle.rules.specs.Search.{read_of, matches, wanted, next, bad_place, search_checks, search_of, Search, step_of, place_after, moved}
 use Rattle.rules.specs.Laws.{nor_left, nor_right, checked_passed}
 use Rattle.rules.specs.Places.{drop_take}
@@ -39,8 +36,8 @@ handle_at f p = handle_of (get_or f p 0)
 
 -- what a step gives, in front of what the later ones give; nothing comes behind a refused one
 abbrev pub gives : List ℕ → Yielded → List ℕ → List ℕ
-gives f (Yielded.At p) hs = handle_at f p ∷ hs
-gives f (Yielded.Refused n) hs = []
+gives f (Ok p) hs = handle_at f p ∷ hs
+gives f (Err n) hs = []
 
 -- what n steps yield, as handles, up to the first that is refused
 abbrev pub yields : ℕ → Search → List ℕ
@@ -64,15 +61,15 @@ abbrev pub read_said : Shape → List ℕ → ℕ → Reply
 read_said a f h = read_reply (read_of (area_of a) h (run_of a f))
 
 -- ---- a refused step
-stays : (s : Search) (r : Refusal) → step_of s ≡ Yielded.Refused r → moved s ≡ s
+stays : (s : Search) (r : Refusal) → step_of s ≡ Err r → moved s ≡ s
 stays s r q = ap (λ (y : Yielded). search_at s.area s.run s.mask s.pattern (place_after s.place y)) q
 
 -- every later one is refused so, and nothing is yielded
-pub refused_again : (n : ℕ) (s : Search) (r : Refusal) → step_of s ≡ Yielded.Refused r → step_of (after n s) ≡ Yielded.Refused r
+pub refused_again : (n : ℕ) (s : Search) (r : Refusal) → step_of s ≡ Err r → step_of (after n s) ≡ Err r
 refused_again zero s r q = q
 refused_again (suc n) s r q = ap (λ (t : Search). step_of (after n t)) (stays s r q) ∙ refused_again n s r q
 
-pub refused_yields : (n : ℕ) (s : Search) (r : Refusal) → step_of s ≡ Yielded.Refused r → yields n s ≡ []
+pub refused_yields : (n : ℕ) (s : Search) (r : Refusal) → step_of s ≡ Err r → yields n s ≡ []
 refused_yields zero s r q = refl
 refused_yields (suc n) s r q = ap (λ (y : Yielded). gives s.run y (yields n (moved s))) q
 
@@ -122,7 +119,7 @@ module _ {a : Area} {f : List ℕ} (mask pattern : ℕ) (g : Usable a f) (r : re
   settled : Settled a f
   settled = (ready_settled g r).0
 
-  not_found : (p : ℕ) → bad_place a f p ≡ false → next a f mask pattern p ≡ none → step_of (at p) ≡ Yielded.Refused NotFound
+  not_found : (p : ℕ) → bad_place a f p ≡ false → next a f mask pattern p ≡ None → step_of (at p) ≡ Err NotFound
   not_found p b q = rw (g.right, ready_sound a f g r, ready_passed a f r, b, q)
 
   -- a search that has reached the place p: the entries es are still before it
@@ -136,8 +133,8 @@ module _ {a : Area} {f : List ℕ} (mask pattern : ℕ) (g : Usable a f) (r : re
 
   -- its next step: refused, or an entry's place
   data Ahead (es : List Entry) (p : ℕ) : Type 0 where
-    no_match : step_of (at p) ≡ Yielded.Refused NotFound → handles mask pattern es ≡ [] → Ahead es p
-    match : (e : Entry) (suf : List Entry) → step_of (at p) ≡ Yielded.At e.place → handle_at f e.place ≡ e.handle
+    no_match : step_of (at p) ≡ Err NotFound → handles mask pattern es ≡ [] → Ahead es p
+    match : (e : Entry) (suf : List Entry) → step_of (at p) ≡ Ok e.place → handle_at f e.place ≡ e.handle
         → handles mask pattern es ≡ e.handle ∷ handles mask pattern suf → Reached suf e.place → Ahead es p
 
   next_behind : {es : List Entry} {p : ℕ} → (c : Reached es p) → next a f mask pattern p ≡ first_of (wanted mask pattern p) es
@@ -160,7 +157,7 @@ module _ {a : Area} {f : List ℕ} (mask pattern : ℕ) (g : Usable a f) (r : re
     where
       go : (b : Bool) → matches mask pattern e ≡ b → Grow (suc p) (e ∷ es) c.hi → (Reached es p → Ahead es p) → Ahead (e ∷ es) p
       go true m (step l k) ih =
-          let n : next a f mask pattern p ≡ some e = next_behind c ∙ rw (lt-ltb p e.place l, m) in
+          let n : next a f mask pattern p ≡ Some e = next_behind c ∙ rw (lt-ltb p e.place l, m) in
           match e es (searched mask pattern p e g r c.place n) (handle_there settled c.passed e es c.all) (rw m)
           (on c (none_ahead mask pattern c.passed e es (grow_entries settled (c.passed ++ e ∷ es) c.all)) k (entry_place a f c.passed e es c.all))
       go false m (step l k) ih =
@@ -181,16 +178,16 @@ module _ {a : Area} {f : List ℕ} (mask pattern : ℕ) (g : Usable a f) (r : re
           ∙ ap (take (suc n)) (sym m)
 
   -- and the step behind the last match
-  ends_ahead : (n : ℕ) (es : List Entry) (p : ℕ) → Reached es p → length (handles mask pattern es) ≤ n → step_of (after n (at p)) ≡ Yielded.Refused NotFound
+  ends_ahead : (n : ℕ) (es : List Entry) (p : ℕ) → Reached es p → length (handles mask pattern es) ≤ n → step_of (after n (at p)) ≡ Err NotFound
   ends_ahead zero es p c l = go (ahead es p c)
     where
-      go : Ahead es p → step_of (at p) ≡ Yielded.Refused NotFound
+      go : Ahead es p → step_of (at p) ≡ Err NotFound
       go (no_match s m) = s
       go (match e suf s t m d) = let z : suc (length (handles mask pattern suf)) ≤ 0 = rw m at l in absurd (omega arith)
   ends_ahead (suc n) es p c l = go (ahead es p c) (ends_ahead n)
     where
-      go : Ahead es p → ((es : List Entry) (p : ℕ) → Reached es p → length (handles mask pattern es) ≤ n → step_of (after n (at p)) ≡ Yielded.Refused NotFound)
-          → step_of (after (suc n) (at p)) ≡ Yielded.Refused NotFound
+      go : Ahead es p → ((es : List Entry) (p : ℕ) → Reached es p → length (handles mask pattern es) ≤ n → step_of (after n (at p)) ≡ Err NotFound)
+          → step_of (after (suc n) (at p)) ≡ Err NotFound
       go (no_match s m) ih = refused_again (suc n) (at p) NotFound s
       go (match e suf s t m d) ih =
           let z : suc (length (handles mask pattern suf)) ≤ suc n = rw m at l in
@@ -208,11 +205,11 @@ module _ {a : Area} {f : List ℕ} (mask pattern : ℕ) (g : Usable a f) (r : re
   steps_yield n = yields_ahead n (entries a f) 0 opened
 
   -- and a step behind the last is refused as NOTFOUND
-  pub steps_end : (n : ℕ) → length (handles mask pattern (entries a f)) ≤ n → step_of (after n (search_at a f mask pattern 0)) ≡ Yielded.Refused NotFound
+  pub steps_end : (n : ℕ) → length (handles mask pattern (entries a f)) ≤ n → step_of (after n (search_at a f mask pattern 0)) ≡ Err NotFound
   steps_end n l = ends_ahead n (entries a f) 0 opened l
 
   -- the first is refused so just when nothing matches
-  pub none_found : (step_of (search_at a f mask pattern 0) ≡ Yielded.Refused NotFound) ↔ (handles mask pattern (entries a f) ≡ [])
+  pub none_found : (step_of (search_at a f mask pattern 0) ≡ Err NotFound) ↔ (handles mask pattern (entries a f) ≡ [])
   none_found = (
     (λ s. first_none (handles mask pattern (entries a f)) (sym (steps_yield 1) ∙ refused_yields 1 (at 0) NotFound s)),
     (λ e. steps_end 0 (rw e (le_refl 0))),
@@ -223,9 +220,9 @@ module _ {a : Area} {f : List ℕ} (mask pattern : ℕ) (g : Usable a f) (r : re
       first_none (h ∷ hs) q = absurd (nil≢cons (sym q))
 
 -- a step that yields is on a ready area
-yields_ready : (a : Area) (f : List ℕ) (mask pattern p q : ℕ) → search_of a mask pattern p f ≡ Yielded.At q → (wrong_geometry a f ≡ false) × (ready a f ≡ true)
+yields_ready : (a : Area) (f : List ℕ) (mask pattern p q : ℕ) → search_of a mask pattern p f ≡ Ok q → (wrong_geometry a f ≡ false) × (ready a f ≡ true)
 yields_ready a f mask pattern p q y =
-    let c = checked_passed Yielded.Refused (search_checks a f mask pattern p) _ (Yielded.At q) (λ m z. let y : ◌≡◌ {A = ℕ} 0 1 = cc in omega arith) y in
+    let c = checked_passed Err (search_checks a f mask pattern p) _ (Ok q) (λ m z. let y : ◌≡◌ {A = ℕ} 0 1 = cc in omega arith) y in
     (c.0.0, passed_ready a f c.0.1.0 c.0.1.1.0)
 
 -- ---- the area of the console
@@ -236,8 +233,8 @@ usable_run a w q = record { words = words_take (run_words a) w; right = q }
 -- ---- a list
 module _ (a : Shape) {f : List ℕ} (w : Words f) (mask pattern : ℕ) where
   -- of so many steps as there are handles, or more
-  listed_all : (q n : ℕ) → step_of (list_search a f mask pattern) ≡ Yielded.At q → length (list_handles a mask pattern f) ≤ n
-      → (list_handles a mask pattern f ≡ yields n (list_search a f mask pattern)) × (step_of (after n (list_search a f mask pattern)) ≡ Yielded.Refused NotFound)
+  listed_all : (q n : ℕ) → step_of (list_search a f mask pattern) ≡ Ok q → length (list_handles a mask pattern f) ≤ n
+      → (list_handles a mask pattern f ≡ yields n (list_search a f mask pattern)) × (step_of (after n (list_search a f mask pattern)) ≡ Err NotFound)
   unfolding list_handles
   listed_all q n y l =
       let t = yields_ready (area_of a) (run_of a f) mask pattern 0 q y in
@@ -250,17 +247,17 @@ module _ (a : Shape) {f : List ℕ} (w : Words f) (mask pattern : ℕ) where
   pub list_is_steps : (n : ℕ) → length (list_handles a mask pattern f) ≤ n
       → (((list_said a f mask pattern).number ≡ 0x00)
       × (list_handles a mask pattern f ≡ yields n (list_search a f mask pattern))
-      × (step_of (after n (list_search a f mask pattern)) ≡ Yielded.Refused NotFound))
-      ⊎ ((r : Refusal) × ((list_said a f mask pattern).number ≡ refusal_number r) × (step_of (list_search a f mask pattern) ≡ Yielded.Refused r))
+      × (step_of (after n (list_search a f mask pattern)) ≡ Err NotFound))
+      ⊎ ((r : Refusal) × ((list_said a f mask pattern).number ≡ refusal_number r) × (step_of (list_search a f mask pattern) ≡ Err r))
   list_is_steps n l = go (step_of (list_search a f mask pattern)) refl
     where
       go : (y : Yielded) → step_of (list_search a f mask pattern) ≡ y
           → (((list_reply a mask pattern y).number ≡ 0x00)
           × (list_handles a mask pattern f ≡ yields n (list_search a f mask pattern))
-          × (step_of (after n (list_search a f mask pattern)) ≡ Yielded.Refused NotFound))
-          ⊎ ((r : Refusal) × ((list_reply a mask pattern y).number ≡ refusal_number r) × (y ≡ Yielded.Refused r))
-      go (Yielded.At q) e = let t = listed_all q n e l in inl (refl, t.0, t.1)
-      go (Yielded.Refused r) e = inr (r, refl, refl)
+          × (step_of (after n (list_search a f mask pattern)) ≡ Err NotFound))
+          ⊎ ((r : Refusal) × ((list_reply a mask pattern y).number ≡ refusal_number r) × (y ≡ Err r))
+      go (Ok q) e = let t = listed_all q n e l in inl (refl, t.0, t.1)
+      go (Err r) e = inr (r, refl, refl)
 
   -- so its line has the number of the first step, and then the handles that the steps yield
   pub list_says : (n : ℕ) → length (list_handles a mask pattern f) ≤ n
@@ -271,8 +268,8 @@ module _ (a : Shape) {f : List ℕ} (w : Words f) (mask pattern : ℕ) where
       go : (y : Yielded) → step_of (list_search a f mask pattern) ≡ y
           → ((list_reply a mask pattern y).number ≡ yielded_number y)
           × (tail_bytes (list_reply a mask pattern y).tail f ≡ fours (yields n (list_search a f mask pattern)))
-      go (Yielded.At q) e = (refl, ap fours (listed_all q n e l).0)
-      go (Yielded.Refused r) e = (refl, ap fours (sym (refused_yields n (list_search a f mask pattern) r e)))
+      go (Ok q) e = (refl, ap fours (listed_all q n e l).0)
+      go (Err r) e = (refl, ap fours (sym (refused_yields n (list_search a f mask pattern) r e)))
 
 -- ---- a read
 -- words in the front of a list are the list's own
@@ -303,21 +300,21 @@ refusal_some BadPlace e = omega arith
 
 module _ (a : Shape) {f : List ℕ} (w : Words f) (h : ℕ) where
   -- what the map holds is what a read says
-  pub read_is_map : (d : List ℕ) → wrong_geometry (area_of a) (run_of a f) ≡ false → ready (area_of a) (run_of a f) ≡ true → map_of (area_of a) (run_of a f) h ≡ some d
+  pub read_is_map : (d : List ℕ) → wrong_geometry (area_of a) (run_of a f) ≡ false → ready (area_of a) (run_of a f) ≡ true → map_of (area_of a) (run_of a f) h ≡ Some d
       → ((read_said a f h).number ≡ 0x00) × (tail_bytes (read_said a f h).tail f ≡ eights d)
   read_is_map d q r m =
       let t = read_held h d (usable_run a w q) r m in
       rw t.1 (refl, ap eights (words_run a f t.0 h d t.2))
 
   -- and it says nothing else
-  pub map_is_read : (read_said a f h).number ≡ 0x00 → (d : List ℕ) × (map_of (area_of a) (run_of a f) h ≡ some d) × (tail_bytes (read_said a f h).tail f ≡ eights d)
+  pub map_is_read : (read_said a f h).number ≡ 0x00 → (d : List ℕ) × (map_of (area_of a) (run_of a f) h ≡ Some d) × (tail_bytes (read_said a f h).tail f ≡ eights d)
   map_is_read e = go (read_of (area_of a) h (run_of a f)) refl e
     where
       go : (x : Reading) → read_of (area_of a) h (run_of a f) ≡ x → (read_reply x).number ≡ 0x00
-          → (d : List ℕ) × (map_of (area_of a) (run_of a f) h ≡ some d) × (tail_bytes (read_said a f h).tail f ≡ eights d)
-      go (Reading.At p n) q e =
-          let c = checked_passed Reading.Refused (find_checks (area_of a) (run_of a f) h) _ (Reading.At p n) (λ m z. let y : ◌≡◌ {A = ℕ} 0 1 = cc in omega arith) q in
-          let d = take n (drop (suc p) (run_of a f)) in
-          let m = (held_read h p n (usable_run a w c.0.0) q).0 in
+          → (d : List ℕ) × (map_of (area_of a) (run_of a f) h ≡ Some d) × (tail_bytes (read_said a f h).tail f ≡ eights d)
+      go (Ok r) q e =
+          let c = checked_passed Err (find_checks (area_of a) (run_of a f) h) _ (Ok r) (λ m z. let y : ◌≡◌ {A = ℕ} 0 1 = cc in omega arith) q in
+          let d = take r.words (drop (suc r.place) (run_of a f)) in
+          let m = (held_read h r.place r.words (usable_run a w c.0.0) q).0 in
           (d, m, (read_is_map d c.0.0 (passed_ready (area_of a) (run_of a f) c.0.1.0 c.0.1.1.0) m).1)
-      go (Reading.Refused r) q e = absurd (refusal_some r e)
+      go (Err r) q e = absurd (refusal_some r e)

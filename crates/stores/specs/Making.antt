@@ -1,8 +1,7 @@
 -- The stores that lists are made of, and laws: words upward one by one, a copy inside the flash that reads each word when its turn comes,
 -- a page's metadata, and a format. Assumes nothing.
-use Rattle.std.specs.Prelude.{◌≡◌, refl, List, [], ◌∷◌, ◌++◌, ◌⊎◌, ℕ, suc, zero, ◌+◌, ◌-◌, ◌*◌, ◌≤◌, ◌<◌, length, get_or, take, drop, set}
+use Rattle.std.specs.Prelude.{◌≡◌, refl, List, [], ◌∷◌, ◌++◌, ◌⊎◌, ℕ, suc, zero, ◌+◌, ◌-◌, ◌*◌, ◌≤◌, ◌<◌, length, get_or, take, drop, set, Option, Some, None}
 use Rattle.std.proofs.Common.{ap, sym, ◌∙◌, inl, inr, ⊎_elim, arith, mul-le-mul_right, length-set, drop_of_length-le, drop-cons, drop-set-lt, Fits}
-use Rattle.std.proofs.Math.Option.{Option, some, none}
 use Rattle.std.proofs.lemmas.List.{drop-set-add, take-set-le}
 use Rattle.std.specs.Int.Bits.{bit_and}
 use Rattle.std.specs.Int.{w64}
@@ -14,8 +13,8 @@ use Rattle.rules.specs.Words.{meta0, meta1, seal}
 use Rattle.rules.specs.Areas.{R, base, Entry, entries, live_of, find}
 use Rattle.rules.specs.Lists.{erase, bare_if, erase_r, format_page, format_list}
 use Rattle.rules.specs.Places.{Right, right_ran, base_suc, page_in}
-use Rattle.entries.specs.declared.Found.{Found}
 use Rattle.entries.specs.Ahead.{found_of, found_inside}
+use Rattle.rules.specs.declared.Found.{Found}
 
 -- words 0 and 1 of page j as for page i
 abbrev pub metadata : Area → ℕ → ℕ → List Store
@@ -65,38 +64,38 @@ run_small {a} {f} r =
 
 -- ---- the header of what is found to its bare length
 -- the number of the data words of what is found
-abbrev pub data_words : Found → ℕ
-data_words (Found.At place words) = words
-data_words Found.None = 0
+abbrev pub data_words : Option Found → ℕ
+data_words (Some e) = e.words
+data_words None = 0
 
-abbrev pub bare_found : Found → List Store
-bare_found (Found.At place words) = put place (words + 1) ∷ []
-bare_found Found.None = []
+abbrev pub bare_found : Option Found → List Store
+bare_found (Some e) = put e.place (e.words + 1) ∷ []
+bare_found None = []
 
-module _ {r : Found} {place words : ℕ} (e : r ≡ Found.At place words) where
-  pub bare_at : {p q : Power} {f g : List ℕ} → Ran (put place (words + 1) ∷ []) p f q g → Ran (bare_found r) p f q g
-  bare_at x = rw e x
+module _ {r : Option Found} {x : Found} (e : r ≡ Some x) where
+  pub bare_at : {p q : Power} {f g : List ℕ} → Ran (put x.place (x.words + 1) ∷ []) p f q g → Ran (bare_found r) p f q g
+  bare_at s = rw e s
 
-  pub bare_words : {n : ℕ} → data_words r ≤ n → words ≤ n
+  pub bare_words : {n : ℕ} → data_words r ≤ n → x.words ≤ n
   bare_words h = rw e at h
 
-pub bare_none : {r : Found} {p : Power} {f : List ℕ} → r ≡ Found.None → Ran (bare_found r) p f p f
+pub bare_none : {r : Option Found} {p : Power} {f : List ℕ} → r ≡ None → Ran (bare_found r) p f p f
 bare_none {p = p} {f} e = rw e (ran_none p f)
 
 pub ruleset bares = (bare_at, bare_words, bare_none)
 
 -- no entry of the area has more words than can be counted
-pub found_counted : {a : Area} {f : List ℕ} {r : Found} (h : ℕ) → r ≡ found_of (find h (entries a f)) → Right a f → data_words r ≤ 262144
+pub found_counted : {a : Area} {f : List ℕ} {r : Option Found} (h : ℕ) → r ≡ found_of (find h (entries a f)) → Right a f → data_words r ≤ 262144
 found_counted {a} {f} {r} h e w = go r refl
   where
-    go : (s : Found) → r ≡ s → data_words s ≤ 262144
-    go (Found.At place words) q = omega (arith, found_inside (live_of h) e q w, run_small w)
-    go Found.None q = omega arith
+    go : (s : Option Found) → r ≡ s → data_words s ≤ 262144
+    go (Some d) q = omega (arith, found_inside (live_of h) e q w, run_small w)
+    go None q = omega arith
 
 -- its store is the entry's
 pub found_bare : (o : Option Entry) → bare_found (found_of o) ≡ bare_if o
-found_bare none = refl
-found_bare (some e) = refl
+found_bare None = refl
+found_bare (Some e) = refl
 
 -- ---- words upward, in two parts and one by one
 pub puts_append : (at : ℕ) (x y : List ℕ) → puts at (x ++ y) ≡ puts at x ++ puts (at + length x) y

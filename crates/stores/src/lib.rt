@@ -14,9 +14,8 @@ ghost use Rattle.rules.specs.Lists.{erase, format_page, format_list};
 ghost use Rattle.rules.specs.Places.{Right};
 ghost use Rattle.stores.specs.Making.{data_words, bare_found, metadata};
 
-use entries::Found;
 use flash::Power;
-use rules::{Area, META0, SEAL};
+use rules::{Area, Found, META0, SEAL};
 
 // The place of a page's first word in the run; the page behind the last one is R.
 pub fn base(area: Area, index: usize) -> usize
@@ -43,13 +42,13 @@ pub fn bare(flash: &mut [u32], place: usize, words: usize, power: Power) -> Powe
 }
 
 // The header of the entry found to its bare length; nothing, if none was found.
-pub fn bare_found(flash: &mut [u32], found: Found, power: Power) -> Power
+pub fn bare_found(flash: &mut [u32], found: Option<Found>, power: Power) -> Power
     requires { data_words found ≤ 262144 }
     ensures { Ran (bare_found found) power flash.old result flash.new }
 {
     match found {
-        Found::At { place, words } => bare(flash, place, words, power),
-        Found::None => power,
+        Some(entry) => bare(flash, entry.place, entry.words, power),
+        None => power,
     }
 }
 

@@ -1,6 +1,6 @@
 -- What a look at an area says to who looked: the refusals, that R is free and all pages are sealed or that they are not, and what was found.
 -- Laws. Assumes nothing.
-use Rattle.std.specs.Prelude.{◌≡◌, refl, List, [], ◌∷◌, ◌++◌, Bool, true, false, cond, ℕ}
+use Rattle.std.specs.Prelude.{◌≡◌, refl, List, [], ◌∷◌, ◌++◌, Bool, true, false, cond, ℕ, Option, Some, None, Result, Ok, Err}
 use Rattle.std.proofs.Common.{sym, ◌∙◌, arith}
 use Rattle.std.proofs.Math.Path.{ap}
 use Rattle.rules.specs.declared.Area.{Area}
@@ -11,7 +11,6 @@ use Rattle.rules.specs.Laws.{Passed, checked_passed}
 use Rattle.rules.specs.Places.{Right, right_of}
 use Rattle.entries.specs.Noting.{all_noted, any_handle, blank_map, nothing}
 use Rattle.survey.specs.declared.Sight.{Sight}
-use Rattle.survey.specs.declared.Looked.{Looked}
 use Rattle.survey.specs.Surveying.{view_of, all_sealed, sight_of, looked}
 
 -- what is refused by checks is refused by whoever makes them first, whatever checks follow
@@ -26,36 +25,36 @@ refused_on {why = why} refused refuses same (c ∷ cs) ds x y n e = go c.0 refl 
     go false q e ih = rw q (ih e)
 
 -- what is not refused
-abbrev given : Bool → Sight → Looked
-given b s = cond b (Looked.Sealed s) Looked.Unsealed
+abbrev given : Bool → Sight → Result (Option Sight) Refusal
+given b s = cond b (Ok (Some s)) (Ok None)
 
-not_refused : (b : Bool) (s : Sight) (why : Refusal) → Looked.Refused why ≡ given b s → ⊥
+not_refused : (b : Bool) (s : Sight) (why : Refusal) → Err why ≡ given b s → ⊥
 not_refused true s why q = let z : ◌≡◌ {A = ℕ} 0 1 = cc in omega arith
 not_refused false s why q = let z : ◌≡◌ {A = ℕ} 0 1 = cc in omega arith
 
-given_sealed : (b : Bool) (s t : Sight) → given b s ≡ Looked.Sealed t → (b ≡ true) × (t ≡ s)
+given_sealed : (b : Bool) (s t : Sight) → given b s ≡ Ok (Some t) → (b ≡ true) × (t ≡ s)
 given_sealed true s t q = (refl, let z : t ≡ s = cc in z)
 given_sealed false s t q = absurd (let z : ◌≡◌ {A = ℕ} 0 1 = cc in let y : ⊥ = omega arith in y)
 
-given_unsealed : (b : Bool) (s : Sight) → given b s ≡ Looked.Unsealed → b ≡ false
+given_unsealed : (b : Bool) (s : Sight) → given b s ≡ Ok None → b ≡ false
 given_unsealed true s q = absurd (let z : ◌≡◌ {A = ℕ} 0 1 = cc in let y : ⊥ = omega arith in y)
 given_unsealed false s q = refl
 
-module _ {l : Looked} (a : Area) (f : List ℕ) (h n : ℕ) (e : l ≡ looked a f h n) where
+module _ {l : Result (Option Sight) Refusal} (a : Area) (f : List ℕ) (h n : ℕ) (e : l ≡ looked a f h n) where
   abbrev sight : Sight
   sight = sight_of a f h n
 
-  pub look_refused : {A : Type 0} {why : Refusal} (refused : Refusal → A) (ds : List (Bool × Refusal)) (x : A) → l ≡ Looked.Refused why → refused why ≡ checked refused (recover_checks a f ++ ds) x
+  pub look_refused : {A : Type 0} {why : Refusal} (refused : Refusal → A) (ds : List (Bool × Refusal)) (x : A) → l ≡ Err why → refused why ≡ checked refused (recover_checks a f ++ ds) x
   look_refused refused ds x q =
-      refused_on Looked.Refused refused (λ u v z. let y : u ≡ v = cc in y) (recover_checks a f) ds (given (all_sealed a f) sight) x (not_refused (all_sealed a f) sight) (sym e ∙ q)
+      refused_on Err refused (λ u v z. let y : u ≡ v = cc in y) (recover_checks a f) ds (given (all_sealed a f) sight) x (not_refused (all_sealed a f) sight) (sym e ∙ q)
 
-  both : (o : Looked) → ((why : Refusal) → Looked.Refused why ≡ o → ⊥) → l ≡ o → Passed (recover_checks a f) × (given (all_sealed a f) sight ≡ o)
-  both o m q = checked_passed Looked.Refused (recover_checks a f) (given (all_sealed a f) sight) o m (sym e ∙ q)
+  both : (o : Result (Option Sight) Refusal) → ((why : Refusal) → Err why ≡ o → ⊥) → l ≡ o → Passed (recover_checks a f) × (given (all_sealed a f) sight ≡ o)
+  both o m q = checked_passed Err (recover_checks a f) (given (all_sealed a f) sight) o m (sym e ∙ q)
 
   -- ---- R is not free, or a page not sealed
-  module _ (q : l ≡ Looked.Unsealed) where
-    unsealed : Passed (recover_checks a f) × (given (all_sealed a f) sight ≡ Looked.Unsealed)
-    unsealed = both Looked.Unsealed (not_refused false sight) q
+  module _ (q : l ≡ (Ok None)) where
+    unsealed : Passed (recover_checks a f) × (given (all_sealed a f) sight ≡ (Ok None))
+    unsealed = both (Ok None) (not_refused false sight) q
 
     pub unsealed_passed : Passed (recover_checks a f)
     unsealed_passed = unsealed.0
@@ -67,9 +66,9 @@ module _ {l : Looked} (a : Area) (f : List ℕ) (h n : ℕ) (e : l ≡ looked a 
     unsealed_is = given_unsealed (all_sealed a f) sight unsealed.1
 
   -- ---- R is free and all pages are sealed, and what was found
-  module _ {s : Sight} (q : l ≡ Looked.Sealed s) where
-    sealed : Passed (recover_checks a f) × (given (all_sealed a f) sight ≡ Looked.Sealed s)
-    sealed = both (Looked.Sealed s) (not_refused true s) q
+  module _ {s : Sight} (q : l ≡ Ok (Some s)) where
+    sealed : Passed (recover_checks a f) × (given (all_sealed a f) sight ≡ Ok (Some s))
+    sealed = both (Ok (Some s)) (not_refused true s) q
 
     pub sealed_passed : Passed (recover_checks a f)
     sealed_passed = sealed.0

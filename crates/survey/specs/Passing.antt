@@ -1,9 +1,10 @@
 -- What a survey knows of the pages that it has passed: definitions and laws. Assumes nothing.
-use Rattle.std.specs.Prelude.{◌≡◌, List, Bool, false, cond, ◌&&◌, ◌||◌, length, leb}
+use Rattle.std.specs.Prelude.{◌≡◌, List, Bool, false, cond, ◌&&◌, ◌||◌, length, leb, Option, Some, None}
+use Rattle.std.specs.Bool.{then_some}
+use Rattle.std.specs.Option.{option_or}
 use Rattle.std.proofs.Math.Path.{refl, ap}
 use Rattle.std.proofs.Common.{sym, ◌∙◌, add-one, le-leb, Fits}
 use Rattle.std.proofs.Math.Bool.{true, and-true, and_assoc}
-use Rattle.std.proofs.Math.Option.{Option, some}
 use Prim.Native.Nat.{ℕ, suc, ◌+◌, ◌-◌, ◌*◌, ◌≤◌, ◌<◌}
 use native.Mathlib.Omega.{arith}
 use Rattle.std.proofs.lemmas.Bool.{lt-leb}
@@ -17,7 +18,6 @@ use Rattle.rules.specs.Lists.{lowest, leaves_room, room_page, makes_room, compac
 use Rattle.rules.specs.Places.{Right, base_suc}
 use Rattle.rules.specs.Laws.{live_append, live_anywhere}
 use Rattle.pages.specs.Steps.{length_at}
-use Rattle.entries.specs.declared.Found.{Found}
 use Rattle.entries.specs.Noting.{all_noted, any_handle, blank_map, nothing}
 use Rattle.area.specs.Checks.{base_fits, end_fits}
 use Rattle.survey.specs.declared.FoundPage.{FoundPage}
@@ -26,41 +26,12 @@ use Rattle.survey.specs.declared.Summary.{Summary}
 use Rattle.survey.specs.declared.Sought.{Sought}
 use Rattle.survey.specs.declared.walk.Walk.{Walk}
 use Rattle.survey.specs.Surveying.{found_page, view_of}
-use Rattle.survey.specs.Walking.{or_nothing, Gathering, gathering_start, gathering_some, Standing, WalkedOn, Touring, Toured, touring_start, tour_inside, standing, touring_on, touring_end}
+use Rattle.survey.specs.Walking.{or_if, or_none, or_or, Gathering, gathering_start, gathering_some, Standing, WalkedOn, Touring, Toured, touring_start, tour_inside, standing, touring_on, touring_end}
+use Rattle.rules.specs.declared.Found.{Found}
 
 -- ---- the page that is found first
-abbrev pub or_page : FoundPage → FoundPage → FoundPage
-or_page (FoundPage.At i s) o = FoundPage.At i s
-or_page FoundPage.None o = o
-
-abbrev pub page_if : Bool → ℕ → ℕ → FoundPage
-page_if t i s = cond t (FoundPage.At i s) FoundPage.None
-
-unfoldable pub lower_of : FoundPage → Bool → ℕ → ℕ → FoundPage
-lower_of o t i s = or_page o (page_if t i s)
-
-pub lower_found : {o : FoundPage} {j u : ℕ} (t : Bool) (i s : ℕ) → o ≡ FoundPage.At j u → FoundPage.At j u ≡ lower_of o t i s
-unfolding lower_of
-lower_found t i s e = rw e
-
-module _ {o : FoundPage} (t : Bool) (i s : ℕ) (e : o ≡ FoundPage.None) where
-  pub lower_here : t ≡ true → FoundPage.At i s ≡ lower_of o t i s
-  unfolding lower_of
-  lower_here q = rw (e, q)
-
-  pub lower_none : t ≡ false → FoundPage.None ≡ lower_of o t i s
-  unfolding lower_of
-  lower_none q = rw (e, q)
-
-pub ruleset lowers = (lower_found, lower_here, lower_none)
-
-or_none : (o : FoundPage) → or_page o FoundPage.None ≡ o
-or_none (FoundPage.At i s) = refl
-or_none FoundPage.None = refl
-
-or_or : (o u v : FoundPage) → or_page (or_page o u) v ≡ or_page o (or_page u v)
-or_or (FoundPage.At i s) u v = refl
-or_or FoundPage.None u v = refl
+abbrev pub lower_of : Option FoundPage → Bool → ℕ → ℕ → Option FoundPage
+lower_of o t i s = or_if o t (record { index = i; stop = s })
 
 -- ---- of n pages those from i on are ahead
 one_less : (n i : ℕ) → i < n → n - i ≡ suc (n - suc i)
@@ -86,22 +57,22 @@ testing_end : {t : ℕ → Bool} {n i : ℕ} {b : Bool} → Testing t n i b → 
 testing_end {t} {n} {i} {b} s h = sym (and-true b) ∙ rw (none_left n i h) at s.same
 
 -- the lowest that passes, o being the one before i
-pub record Seeking (a : Area) (f : List ℕ) (t : ℕ → Bool) (i : ℕ) (o : FoundPage) : Type 0 where
-  pub same : or_page o (found_page a f (lowest t (a.pages - i) i)) ≡ found_page a f (lowest t a.pages 0)
+pub record Seeking (a : Area) (f : List ℕ) (t : ℕ → Bool) (i : ℕ) (o : Option FoundPage) : Type 0 where
+  pub same : option_or o (found_page a f (lowest t (a.pages - i) i)) ≡ found_page a f (lowest t a.pages 0)
 
-first_page : (a : Area) (f : List ℕ) (b : Bool) (i : ℕ) (o : Option ℕ) → or_page (page_if b i (stop (page a f i))) (found_page a f o) ≡ found_page a f (cond b (some i) o)
+first_page : (a : Area) (f : List ℕ) (b : Bool) (i : ℕ) (o : Option ℕ) → option_or (then_some b (record { index = i; stop = stop (page a f i) })) (found_page a f o) ≡ found_page a f (cond b (Some i) o)
 first_page a f true i o = refl
 first_page a f false i o = refl
 
-seeking_start : (a : Area) (f : List ℕ) (t : ℕ → Bool) → Seeking a f t 0 FoundPage.None
+seeking_start : (a : Area) (f : List ℕ) (t : ℕ → Bool) → Seeking a f t 0 None
 seeking_start a f t = record { same = rw (all_left a.pages) }
 
-module _ {a : Area} {f : List ℕ} {t : ℕ → Bool} {i : ℕ} {o : FoundPage} (k : Seeking a f t i o) where
-  seeking_on : {u : FoundPage} {b : Bool} {s : ℕ} → i < a.pages → b ≡ t i → s ≡ stop (page a f i) → u ≡ lower_of o b i s → Seeking a f t (suc i) u
-  unfolding lower_of
+module _ {a : Area} {f : List ℕ} {t : ℕ → Bool} {i : ℕ} {o : Option FoundPage} (k : Seeking a f t i o) where
+  seeking_on : {u : Option FoundPage} {b : Bool} {s : ℕ} → i < a.pages → b ≡ t i → s ≡ stop (page a f i) → u ≡ lower_of o b i s → Seeking a f t (suc i) u
+  unfolding or_if
   seeking_on h e q w =
       let l = lowest t (a.pages - suc i) (suc i) in
-      record { same = rw (w, e, q) (or_or o (page_if (t i) i (stop (page a f i))) (found_page a f l) ∙ ap (or_page o) (first_page a f (t i) i l) ∙ rw (one_less a.pages i h) at k.same) }
+      record { same = rw (w, e, q) (or_or o (then_some (t i) (record { index = i; stop = stop (page a f i) })) (found_page a f l) ∙ ap (option_or o) (first_page a f (t i) i l) ∙ rw (one_less a.pages i h) at k.same) }
 
   seeking_end : a.pages ≤ i → o ≡ found_page a f (lowest t a.pages 0)
   seeking_end h = sym (or_none o) ∙ rw (none_left a.pages i h) at k.same
@@ -147,7 +118,7 @@ summary_on b q i w k =
       compact = lower_of b.compact (leb (w.live + q.needed) (open_words (words_of q.size))) i w.stop;
     }
 
-pub summary_on_is : (b : Summary) (q : Asked) (i : ℕ) (w : Walk) {k t : Kind} {x y z : Bool} {c : FoundPage} {d : ℕ} → k ≡ t → x ≡ names q.recovery i → y ≡ is_sound k → z ≡ is_sealed k
+pub summary_on_is : (b : Summary) (q : Asked) (i : ℕ) (w : Walk) {k t : Kind} {x y z : Bool} {c : Option FoundPage} {d : ℕ} → k ≡ t → x ≡ names q.recovery i → y ≡ is_sound k → z ≡ is_sealed k
     → d ≡ open_words (words_of q.size) → c ≡ lower_of b.compact (leb (w.live + q.needed) d) i w.stop
     → record { sound = b.sound && (x || y); sealed = b.sealed && z; seen = w.seen; entry = w.found; live = b.live + w.live; compact = c } ≡ summary_on b q i w t
 unfolding summary_on
@@ -170,7 +141,7 @@ pub record Fitting (a : Area) (f : List ℕ) (q : Asked) : Type 0 where
 pub record Passing (a : Area) (f : List ℕ) (q : Asked) (i : ℕ) (m : List ℕ) (r : Summary) : Type 0 where
   pub sound : Testing (sound_or_named a f) a.pages i r.sound
   pub sealed : Testing (sealed_at a f) a.pages i r.sealed
-  pub entries : Gathering q.handle (entries a f) blank_map Found.None nothing (entries_from a f (a.pages - i) i) m r.entry r.seen
+  pub entries : Gathering q.handle (entries a f) blank_map None nothing (entries_from a f (a.pages - i) i) m r.entry r.seen
   pub live : Summing a f i r.live
   pub compact : Seeking a f (makes_room a f q.needed) i r.compact
 
@@ -201,7 +172,7 @@ module _ {a : Area} {f : List ℕ} {q : Asked} {i : ℕ} {m : List ℕ} {r : Sum
       live_at : w.live ≡ live_words (page_entries a f i)
       live_at = t.live ∙ rw y (live_anywhere 2 (base a i + 2) (items (page a f i)))
 
-      entries_on : Gathering q.handle (entries a f) blank_map Found.None nothing (entries_from a f (a.pages - suc i) (suc i)) k w.found w.seen
+      entries_on : Gathering q.handle (entries a f) blank_map None nothing (entries_from a f (a.pages - suc i) (suc i)) k w.found w.seen
       unfolding base
       entries_on = gathering_some (page_entries a f i) (rw (one_less a.pages i l) at s.entries) (rw y at t.map) (rw y at t.found) (rw y at t.seen)
 
@@ -219,13 +190,13 @@ module _ {a : Area} {f : List ℕ} {q : Asked} {i : ℕ} {m : List ℕ} {r : Sum
       })
 
 passing_start : {a : Area} {f : List ℕ} {q : Asked}
-    → Passing a f q 0 blank_map (record { sound = true; sealed = true; seen = nothing; entry = Found.None; live = 0; compact = FoundPage.None })
+    → Passing a f q 0 blank_map (record { sound = true; sealed = true; seen = nothing; entry = None; live = 0; compact = None })
 unfolding entries
 passing_start {a} {f} {q} =
     record {
       sound = testing_start (sound_or_named a f) a.pages;
       sealed = testing_start (sealed_at a f) a.pages;
-      entries = rw (all_left a.pages) (gathering_start q.handle (entries_from a f a.pages 0) blank_map Found.None nothing);
+      entries = rw (all_left a.pages) (gathering_start q.handle (entries_from a f a.pages 0) blank_map None nothing);
       live = summing_start a f;
       compact = seeking_start a f (makes_room a f q.needed);
     }
@@ -237,7 +208,7 @@ pub record AllPassed (a : Area) (f : List ℕ) (h n : ℕ) (r : Sought) : Type 0
   pub seen : r.summary.seen ≡ all_noted any_handle blank_map nothing (entries a f)
   pub view : record { entry = r.summary.entry; live = r.summary.live; room = r.room; compact = r.summary.compact } ≡ view_of a f h n
 
-pub passing_end : {a : Area} {f : List ℕ} {q : Asked} {i : ℕ} {m : List ℕ} {r : Summary} {o : FoundPage} → Passing a f q i m r → a.pages ≤ i
+pub passing_end : {a : Area} {f : List ℕ} {q : Asked} {i : ℕ} {m : List ℕ} {r : Summary} {o : Option FoundPage} → Passing a f q i m r → a.pages ≤ i
     → o ≡ found_page a f (room_page a f q.needed) → AllPassed a f q.handle q.needed (record { room = o; passed = i; summary = r })
 unfolding view_of compact_page
 passing_end {a} {f} {q} {i} {m} {r} s l w =
@@ -247,7 +218,7 @@ passing_end {a} {f} {q} {i} {m} {r} s l w =
       sound = testing_end s.sound l;
       sealed = testing_end s.sealed l;
       seen = rw z at e.seen;
-      view = rw (sym (or_nothing r.entry) ∙ rw z at e.found, summing_end s.live l, w, seeking_end s.compact l);
+      view = rw (sym (or_none r.entry) ∙ rw z at e.found, summing_end s.live l, w, seeking_end s.compact l);
     }
 
 pub ruleset passes = (passing_end, place_fits, part_fits, part_long, can_count, passing_on)
@@ -255,7 +226,7 @@ pub ruleset passes = (passing_end, place_fits, part_fits, part_long, can_count, 
 -- ---- the pages before i were passed, and none of them has room
 pub record Roomless (a : Area) (f : List ℕ) (q : Asked) (i : ℕ) (m : List ℕ) (r : Summary) : Type 0 where
   pub passing : Passing a f q i m r
-  pub room : Seeking a f (leaves_room a f q.needed) i FoundPage.None
+  pub room : Seeking a f (leaves_room a f q.needed) i None
 
 -- the lowest that has room was sought
 pub record RoomSought (a : Area) (f : List ℕ) (q : Asked) (m : List ℕ) (r : Sought) : Type 0 where
@@ -263,11 +234,11 @@ pub record RoomSought (a : Area) (f : List ℕ) (q : Asked) (m : List ℕ) (r : 
   pub room : r.room ≡ found_page a f (room_page a f q.needed)
 
 pub roomless_start : {a : Area} {f : List ℕ} {q : Asked} {m : List ℕ} → m ≡ blank_map
-    → Roomless a f q 0 m (record { sound = true; sealed = true; seen = nothing; entry = Found.None; live = 0; compact = FoundPage.None })
+    → Roomless a f q 0 m (record { sound = true; sealed = true; seen = nothing; entry = None; live = 0; compact = None })
 roomless_start {a} {f} {q} e = rw e (record { passing = passing_start; room = seeking_start a f (leaves_room a f q.needed) })
 
 module _ {a : Area} {f : List ℕ} {q : Asked} {i : ℕ} {m : List ℕ} {r : Summary} (s : Roomless a f q i m r) where
-  pub room_none : a.pages ≤ i → RoomSought a f q m (record { room = FoundPage.None; passed = i; summary = r })
+  pub room_none : a.pages ≤ i → RoomSought a f q m (record { room = None; passed = i; summary = r })
   unfolding room_page
   room_none l = record { passing = s.passing; room = seeking_end s.room l }
 
@@ -331,8 +302,8 @@ module _ {a : Area} {f : List ℕ} {q : Asked} {d i : ℕ} {m : List ℕ} {r : S
         passing_with : Passing a f q (i + 1) k u
         passing_with = passing_on s.before.passing toured s.long s.inside s.part s.fitting v
 
-        seeking_with : (h : Bool) → leb (w.stop + q.needed) d ≡ h → Seeking a f (leaves_room a f q.needed) (suc i) (page_if h i w.stop)
-        unfolding leaves_room lower_of
+        seeking_with : (h : Bool) → leb (w.stop + q.needed) d ≡ h → Seeking a f (leaves_room a f q.needed) (suc i) (then_some h (record { index = i; stop = w.stop }))
+        unfolding leaves_room or_if
         seeking_with h g =
             let y : w.stop ≡ stop (page a f i) = page_stop ∙ ap stop s.part in
             seeking_on s.before.room s.inside (sym g ∙ rw (s.last, s.fitting.size, y)) y refl
@@ -340,7 +311,7 @@ module _ {a : Area} {f : List ℕ} {q : Asked} {d i : ℕ} {m : List ℕ} {r : S
         pub room_on : d < w.stop + q.needed → Roomless a f q (i + 1) k u
         room_on g = record { passing = passing_with; room = rw (add-one i) (seeking_with false (lt-leb (w.stop + q.needed) d g)) }
 
-        pub room_here : w.stop + q.needed ≤ d → RoomSought a f q k (record { room = FoundPage.At i w.stop; passed = i + 1; summary = u })
+        pub room_here : w.stop + q.needed ≤ d → RoomSought a f q k (record { room = Some (record { index = i; stop = w.stop }); passed = i + 1; summary = u })
         unfolding room_page
         room_here g = record { passing = passing_with; room = (seeking_with true (le-leb (w.stop + q.needed) d g)).same }
 

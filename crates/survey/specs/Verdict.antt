@@ -1,5 +1,5 @@
 -- What a look and a survey give, from what they have found: laws. Assumes nothing.
-use Rattle.std.specs.Prelude.{◌≡◌, List, [], ◌∷◌, Bool, true, false, not, ◌&&◌, ℕ, ◌≤◌}
+use Rattle.std.specs.Prelude.{◌≡◌, List, [], ◌∷◌, Bool, true, false, not, ◌&&◌, ℕ, ◌≤◌, Option, Some, None, Result, Ok, Err}
 use Rattle.std.proofs.Math.Path.{sym}
 use Rattle.std.proofs.Math.Bool.{and_assoc}
 use borrow.Author.Tests.{not-true, not-false}
@@ -14,8 +14,6 @@ use Rattle.rules.specs.Refusals.{is_listed, wrong_geometry, unready}
 use Rattle.area.specs.Checks.{geometry_right}
 use Rattle.survey.specs.declared.Sought.{Sought}
 use Rattle.survey.specs.declared.Sight.{Sight}
-use Rattle.survey.specs.declared.Looked.{Looked}
-use Rattle.survey.specs.declared.Surveyed.{Surveyed}
 use Rattle.survey.specs.Surveying.{view_of, all_sealed, sight_of, looked, surveyed}
 use Rattle.survey.specs.Looking.{look_refused, unsealed_passed, unsealed_is, sealed_passed, sealed_right, sealed_is, sealed_windows, sealed_view}
 use Rattle.survey.specs.Passing.{Fitting, AllPassed}
@@ -29,16 +27,16 @@ fitting e q l = record { size = e; recovery = q; needed = l }
 
 -- ---- a look
 module _ {g : Bool} (a : Area) (f : List ℕ) (h n : ℕ) (e : g ≡ wrong_geometry a f) where
-  pub shows_geometry : g ≡ true → Looked.Refused Geometry ≡ looked a f h n
+  pub shows_geometry : g ≡ true → Err Geometry ≡ looked a f h n
   shows_geometry t = rw (← e, t)
 
   module _ {x : Recovery} {d : Bool} (t : g ≡ false) (q : x ≡ recovery a f) (k : d ≡ is_damage x) where
-    pub shows_damage : d ≡ true → Looked.Refused Damaged ≡ looked a f h n
+    pub shows_damage : d ≡ true → Err Damaged ≡ looked a f h n
     unfolding damaged
     shows_damage u = rw (← e, t, ← q, ← k, u)
 
     module _ {r : Sought} (u : d ≡ false) (p : AllPassed a f h n r) where
-      pub shows_unsound : not r.summary.sound ≡ true → Looked.Refused Damaged ≡ looked a f h n
+      pub shows_unsound : not r.summary.sound ≡ true → Err Damaged ≡ looked a f h n
       unfolding damaged
       shows_unsound s = rw (← e, t, ← q, ← k, u, ← p.sound, s)
 
@@ -51,35 +49,35 @@ module _ {g : Bool} (a : Area) (f : List ℕ) (h n : ℕ) (e : g ≡ wrong_geome
         unfolding all_sealed
         all_sealed_is = rw (← q, ← y, ← p.sealed)
 
-        pub shows_unsealed : not (b && r.summary.sealed) ≡ true → Looked.Unsealed ≡ looked a f h n
+        pub shows_unsealed : not (b && r.summary.sealed) ≡ true → Ok None ≡ looked a f h n
         shows_unsealed v = rw (← e, t, undamaged, all_sealed_is, not-true (b && r.summary.sealed) v)
 
         pub shows_sealed : not (b && r.summary.sealed) ≡ false
-            → Looked.Sealed (record { view = record { entry = r.summary.entry; live = r.summary.live; room = r.room; compact = r.summary.compact }; windows = r.summary.seen.windows }) ≡ looked a f h n
+            → Ok (Some (record { view = record { entry = r.summary.entry; live = r.summary.live; room = r.room; compact = r.summary.compact }; windows = r.summary.seen.windows })) ≡ looked a f h n
         unfolding sight_of
         shows_sealed v = rw (← e, t, undamaged, all_sealed_is, not-false (b && r.summary.sealed) v, p.view, p.seen)
 
 pub ruleset looks = (geometry_right, geometry_listed, fitting, shows_geometry, shows_damage, shows_unsound, shows_unsealed, shows_sealed)
 
 -- ---- a survey
-module _ {l : Looked} (a : Area) (f : List ℕ) (h n : ℕ) (e : l ≡ looked a f h n) where
-  pub gives_refused : {why : Refusal} → l ≡ Looked.Refused why → Surveyed.Refused why ≡ surveyed a f h n
-  gives_refused q = look_refused a f h n e Surveyed.Refused ((unready a f, Unready) ∷ []) (Surveyed.Ready (view_of a f h n)) q
+module _ {l : Result (Option Sight) Refusal} (a : Area) (f : List ℕ) (h n : ℕ) (e : l ≡ looked a f h n) where
+  pub gives_refused : {why : Refusal} → l ≡ Err why → Err why ≡ surveyed a f h n
+  gives_refused q = look_refused a f h n e Err ((unready a f, Unready) ∷ []) (Ok (view_of a f h n)) q
 
   is_ready : ready a f ≡ all_sealed a f && not (twice (entries a f))
   unfolding ready all_sealed
   is_ready = sym (and_assoc (is_free (recovery a f)) (every (sealed_at a f) a.pages 0) (not (twice (entries a f))))
 
-  pub gives_unsealed : l ≡ Looked.Unsealed → Surveyed.Refused Unready ≡ surveyed a f h n
+  pub gives_unsealed : l ≡ Ok None → Err Unready ≡ surveyed a f h n
   unfolding unready
   gives_unsealed q = let p = unsealed_passed a f h n e q in rw (p.0, p.1.0, is_ready, unsealed_is a f h n e q)
 
-  module _ {s : Sight} {c : Bool} (q : l ≡ Looked.Sealed s) (w : c ≡ twice (entries a f)) where
-    pub gives_twice : c ≡ true → Surveyed.Refused Unready ≡ surveyed a f h n
+  module _ {s : Sight} {c : Bool} (q : l ≡ Ok (Some s)) (w : c ≡ twice (entries a f)) where
+    pub gives_twice : c ≡ true → Err Unready ≡ surveyed a f h n
     unfolding unready
     gives_twice z = let p = sealed_passed a f h n e q in rw (p.0, p.1.0, is_ready, sealed_is a f h n e q, ← w, z)
 
-    pub gives_ready : c ≡ false → Surveyed.Ready s.view ≡ surveyed a f h n
+    pub gives_ready : c ≡ false → Ok s.view ≡ surveyed a f h n
     unfolding unready
     gives_ready z = let p = sealed_passed a f h n e q in rw (p.0, p.1.0, is_ready, sealed_is a f h n e q, ← w, z, sealed_view a f h n e q)
 

@@ -1,9 +1,8 @@
 -- What a survey says to the request that made it: the refusals, and of a ready area that it is, and each part of what was found. Laws.
 -- Assumes nothing.
-use Rattle.std.specs.Prelude.{◌≡◌, refl, List, [], Bool, true, false, cond, ℕ, suc, zero, ◌+◌, ◌<◌}
+use Rattle.std.specs.Prelude.{◌≡◌, refl, List, [], Bool, true, false, cond, ℕ, suc, zero, ◌+◌, ◌<◌, Option, Some, None, Result, Ok, Err}
 use Rattle.std.proofs.Common.{sym, ◌∙◌, arith}
 use Rattle.std.proofs.Math.Path.{ap}
-use Rattle.std.proofs.Math.Option.{Option, some, none}
 use Rattle.rules.specs.declared.Area.{Area}
 use Rattle.rules.specs.declared.Refusal.{Refusal}
 use Rattle.rules.specs.Walk.{stop}
@@ -14,26 +13,26 @@ use Rattle.rules.specs.Laws.{Passed, passed_checked, checked_passed, checked_app
 use Rattle.rules.specs.Places.{Right, right_of}
 use Rattle.area.specs.Checks.{ready_is}
 use Rattle.entries.specs.Ahead.{found_of}
+use Rattle.std.proofs.lemmas.Option.{same_Some}
 use Rattle.survey.specs.declared.FoundPage.{FoundPage}
 use Rattle.survey.specs.declared.View.{View}
-use Rattle.survey.specs.declared.Surveyed.{Surveyed}
 use Rattle.survey.specs.Surveying.{found_page, view_of, surveyed}
 use Rattle.survey.specs.Looking.{refused_on}
 
-never : {why : Refusal} {v : View} → Surveyed.Refused why ≡ Surveyed.Ready v → ⊥
+never : {why : Refusal} {v : View} → Err why ≡ Ok v → ⊥
 never q = let z : ◌≡◌ {A = ℕ} 0 1 = cc in omega arith
 
-module _ {s : Surveyed} (a : Area) (f : List ℕ) (h n : ℕ) (e : s ≡ surveyed a f h n) where
+module _ {s : Result View Refusal} (a : Area) (f : List ℕ) (h n : ℕ) (e : s ≡ surveyed a f h n) where
   -- ---- what is refused is what the request refuses, whatever checks follow
-  pub survey_refused : {A : Type 0} {why : Refusal} (refused : Refusal → A) (ds : List (Bool × Refusal)) (x : A) → s ≡ Surveyed.Refused why
+  pub survey_refused : {A : Type 0} {why : Refusal} (refused : Refusal → A) (ds : List (Bool × Refusal)) (x : A) → s ≡ Err why
       → refused why ≡ checked refused (ready_checks a f ds) x
   survey_refused refused ds x q =
-      refused_on Surveyed.Refused refused (λ u v z. let y : u ≡ v = cc in y) (ready_checks a f []) ds (Surveyed.Ready (view_of a f h n)) x (λ u. never) (sym e ∙ q)
+      refused_on Err refused (λ u v z. let y : u ≡ v = cc in y) (ready_checks a f []) ds (Ok (view_of a f h n)) x (λ u. never) (sym e ∙ q)
 
   -- ---- a ready area, and what was found of it
-  module _ {v : View} (q : s ≡ Surveyed.Ready v) where
-    both : Passed (ready_checks a f []) × (Surveyed.Ready (view_of a f h n) ≡ Surveyed.Ready v)
-    both = checked_passed Surveyed.Refused (ready_checks a f []) (Surveyed.Ready (view_of a f h n)) (Surveyed.Ready v) (λ w z. never z) (sym e ∙ q)
+  module _ {v : View} (q : s ≡ Ok v) where
+    both : Passed (ready_checks a f []) × (◌≡◌ {A = Result View Refusal} (Ok (view_of a f h n)) (Ok v))
+    both = checked_passed Err (ready_checks a f []) (Ok (view_of a f h n)) (Ok v) (λ w z. never z) (sym e ∙ q)
 
     pub survey_passed : Passed (ready_checks a f [])
     survey_passed = both.0
@@ -51,31 +50,31 @@ module _ {s : Surveyed} (a : Area) (f : List ℕ) (h n : ℕ) (e : s ≡ surveye
     survey_view = let z = both.1 in cc
 
 -- ---- a page that is found is one of the area's
-found_none : (a : Area) (f : List ℕ) (o : Option ℕ) → found_page a f o ≡ FoundPage.None → o ≡ none
-found_none a f none q = refl
-found_none a f (some j) q = absurd (let z : ◌≡◌ {A = ℕ} 0 1 = cc in let y : ⊥ = omega arith in y)
+found_none : (a : Area) (f : List ℕ) (o : Option ℕ) → found_page a f o ≡ None → o ≡ None
+found_none a f None q = refl
+found_none a f (Some j) q = absurd (let z : ◌≡◌ {A = ℕ} 0 1 = cc in let y : ⊥ = omega arith in y)
 
-found_some : {i n : ℕ} (a : Area) (f : List ℕ) (o : Option ℕ) → found_page a f o ≡ FoundPage.At i n → (o ≡ some i) × (n ≡ stop (page a f i))
-found_some a f none q = absurd (let z : ◌≡◌ {A = ℕ} 0 1 = cc in let y : ⊥ = omega arith in y)
-found_some {i} {n} a f (some j) q =
-    let y : j ≡ i = cc in
-    let z : n ≡ stop (page a f j) = cc in
-    (ap some y, z ∙ ap (λ (k : ℕ). stop (page a f k)) y)
+found_some : {p : FoundPage} (a : Area) (f : List ℕ) (o : Option ℕ) → found_page a f o ≡ Some p → (o ≡ Some p.index) × (p.stop ≡ stop (page a f p.index))
+found_some a f None q = absurd (let z : ◌≡◌ {A = ℕ} 0 1 = cc in let y : ⊥ = omega arith in y)
+found_some a f (Some j) q =
+    let e = same_Some _ _ q in
+    let y = ap (λ (p : FoundPage). p.index) e in
+    (ap Some y, sym (ap (λ (p : FoundPage). p.stop) e) ∙ ap (λ (k : ℕ). stop (page a f k)) y)
 
-lowest_below : (t : ℕ → Bool) (n j i : ℕ) → lowest t n j ≡ some i → i < j + n
+lowest_below : (t : ℕ → Bool) (n j i : ℕ) → lowest t n j ≡ Some i → i < j + n
 lowest_below t zero j i e = absurd (let z : ◌≡◌ {A = ℕ} 0 1 = cc in omega arith)
 lowest_below t (suc n) j i e = go (t j) e (lowest_below t n (suc j) i)
   where
-    go : (b : Bool) → cond b (some j) (lowest t n (suc j)) ≡ some i → (lowest t n (suc j) ≡ some i → i < suc j + n) → i < j + suc n
+    go : (b : Bool) → cond b (Some j) (lowest t n (suc j)) ≡ Some i → (lowest t n (suc j) ≡ Some i → i < suc j + n) → i < j + suc n
     go true q ih = let z : j ≡ i = cc in omega arith
     go false q ih = let h = ih q in omega arith
 
 module _ {i : ℕ} (a : Area) (f : List ℕ) (n : ℕ) where
-  pub room_inside : room_page a f n ≡ some i → i < a.pages
+  pub room_inside : room_page a f n ≡ Some i → i < a.pages
   unfolding room_page
   room_inside e = omega (arith, lowest_below (leaves_room a f n) a.pages 0 i e)
 
-  pub compact_inside : compact_page a f n ≡ some i → i < a.pages
+  pub compact_inside : compact_page a f n ≡ Some i → i < a.pages
   unfolding compact_page
   compact_inside e = omega (arith, lowest_below (makes_room a f n) a.pages 0 i e)
 
@@ -94,17 +93,17 @@ module _ {v : View} (a : Area) (f : List ℕ) (h n : ℕ) (e : v ≡ view_of a f
   unfolding view_of
   view_room = ap (λ (u : View). u.room) e
 
-  pub room_none : v.room ≡ FoundPage.None → room_page a f n ≡ none
+  pub room_none : v.room ≡ None → room_page a f n ≡ None
   room_none q = found_none a f (room_page a f n) (sym view_room ∙ q)
 
-  module _ {i s : ℕ} (q : v.room ≡ FoundPage.At i s) where
-    pub room_some : room_page a f n ≡ some i
+  module _ {p : FoundPage} (q : v.room ≡ Some p) where
+    pub room_some : room_page a f n ≡ Some p.index
     room_some = (found_some a f (room_page a f n) (sym view_room ∙ q)).0
 
-    pub room_stop : s ≡ stop (page a f i)
+    pub room_stop : p.stop ≡ stop (page a f p.index)
     room_stop = (found_some a f (room_page a f n) (sym view_room ∙ q)).1
 
-    pub room_below : i < a.pages
+    pub room_below : p.index < a.pages
     room_below = room_inside a f n room_some
 
   -- the page whose compaction makes room
@@ -112,12 +111,12 @@ module _ {v : View} (a : Area) (f : List ℕ) (h n : ℕ) (e : v ≡ view_of a f
   unfolding view_of
   view_compact = ap (λ (u : View). u.compact) e
 
-  pub compact_none : v.compact ≡ FoundPage.None → compact_page a f n ≡ none
+  pub compact_none : v.compact ≡ None → compact_page a f n ≡ None
   compact_none q = found_none a f (compact_page a f n) (sym view_compact ∙ q)
 
-  module _ {i s : ℕ} (q : v.compact ≡ FoundPage.At i s) where
-    pub compact_some : compact_page a f n ≡ some i
+  module _ {p : FoundPage} (q : v.compact ≡ Some p) where
+    pub compact_some : compact_page a f n ≡ Some p.index
     compact_some = (found_some a f (compact_page a f n) (sym view_compact ∙ q)).0
 
-    pub compact_below : i < a.pages
+    pub compact_below : p.index < a.pages
     compact_below = compact_inside a f n compact_some

@@ -1,9 +1,10 @@
 -- What a walk over entries gathers for a survey: definitions, and laws of what a loop over them has come to. Assumes nothing.
-use Rattle.std.specs.Prelude.{◌≡◌, refl, List, [], ◌∷◌, ◌++◌, Bool, false, cond, ◌&&◌, ℕ, suc, ◌+◌, ◌-◌, ◌≤◌, length, get_or, take, drop, eqb}
+use Rattle.std.specs.Prelude.{◌≡◌, refl, List, [], ◌∷◌, ◌++◌, Bool, false, cond, ◌&&◌, ℕ, suc, ◌+◌, ◌-◌, ◌≤◌, length, get_or, take, drop, eqb, Option, Some, None}
+use Rattle.std.specs.Bool.{then_some}
+use Rattle.std.specs.Option.{option_or}
 use Rattle.std.proofs.Math.Path.{sym}
 use Rattle.std.proofs.Common.{ap, ◌∙◌, eqb-true, eq-eqb, ne_eqb, Fits}
 use Rattle.std.proofs.Math.Bool.{true, not, and-true}
-use Rattle.std.proofs.Math.Option.{Option, some}
 use native.Mathlib.Omega.{arith}
 use Rattle.std.proofs.lemmas.Bool.{eqb-false}
 use Rattle.std.specs.Int.{w64}
@@ -11,80 +12,72 @@ use Rattle.rules.specs.Words.{handle_of, is_live}
 use Rattle.rules.specs.Walk.{Walked, items, stop}
 use Rattle.rules.specs.Areas.{Entry, placed, live_of, find, live_words}
 use Rattle.pages.specs.Steps.{length_at, walk_at, counted, Walking, walking_start, walking_on, walking_end, Counting, counting_start, counting_on, counting_end, counted_live, counted_dead, goes_on, data_words_length, at_header, stops}
-use Rattle.entries.specs.declared.Found.{Found}
 use Rattle.entries.specs.declared.doubles.Seen.{Seen}
 use Rattle.entries.specs.Ahead.{found_of}
 use Rattle.entries.specs.Noting.{marked, noted, unmarked, unnoted, is_noted, all_marked, all_noted, any_handle}
 use Rattle.survey.specs.declared.walk.Walk.{Walk}
+use Rattle.rules.specs.declared.Found.{Found}
 
 -- ---- what is found first
-abbrev pub or_found : Found → Found → Found
-or_found (Found.At p n) o = Found.At p n
-or_found Found.None o = o
+-- what was found, or else x, if it passes
+unfoldable pub or_if : {T : Type 0} → Option T → Bool → T → Option T
+or_if o t x = option_or o (then_some t x)
 
--- an entry, if it is the wanted one
-abbrev pub found_if : Bool → ℕ → ℕ → Found
-found_if t p n = cond t (Found.At p n) Found.None
+pub or_none : {T : Type 0} (o : Option T) → option_or o None ≡ o
+or_none (Some x) = refl
+or_none None = refl
 
-unfoldable pub kept_of : Found → Bool → ℕ → ℕ → Found
-kept_of o t p n = or_found o (found_if t p n)
+pub or_or : {T : Type 0} (o u v : Option T) → option_or (option_or o u) v ≡ option_or o (option_or u v)
+or_or (Some x) u v = refl
+or_or None u v = refl
 
-pub kept_found : {o : Found} {q m : ℕ} (t : Bool) (p n : ℕ) → o ≡ Found.At q m → Found.At q m ≡ kept_of o t p n
-unfolding kept_of
-kept_found t p n e = rw e
+pub or_passes : {T : Type 0} {r : Option T} {t : Bool} (o : Option T) (x : T) → t ≡ true → r ≡ option_or o (Some x) → r ≡ or_if o t x
+unfolding or_if
+or_passes o x q e = rw (q, e)
 
-module _ {o : Found} (t : Bool) (p n : ℕ) (e : o ≡ Found.None) where
-  pub kept_here : t ≡ true → Found.At p n ≡ kept_of o t p n
-  unfolding kept_of
-  kept_here q = rw (e, q)
+pub or_fails : {T : Type 0} {t : Bool} (o : Option T) (x : T) → t ≡ false → o ≡ or_if o t x
+unfolding or_if
+or_fails o x q = rw q (sym (or_none o))
 
-  pub kept_none : t ≡ false → Found.None ≡ kept_of o t p n
-  unfolding kept_of
-  kept_none q = rw (e, q)
+pub ruleset firsts = (or_passes, or_fails)
 
-pub ruleset keeps = (kept_found, kept_here, kept_none)
+-- an entry of so many data words at a place
+abbrev pub kept_of : Option Found → Bool → ℕ → ℕ → Option Found
+kept_of o t p n = or_if o t (record { place = p; words = n })
 
 -- ---- entries are passed, one behind the other
 -- the entries es are to be passed with a map m, a found entry o and s kept beside the map; ds are still ahead
-pub record Gathering (h : ℕ) (es : List Entry) (m : List ℕ) (o : Found) (s : Seen) (ds : List Entry) (m' : List ℕ) (o' : Found) (s' : Seen) : Type 0 where
+pub record Gathering (h : ℕ) (es : List Entry) (m : List ℕ) (o : Option Found) (s : Seen) (ds : List Entry) (m' : List ℕ) (o' : Option Found) (s' : Seen) : Type 0 where
   pub map : all_marked any_handle m' ds ≡ all_marked any_handle m es
-  pub found : or_found o' (found_of (find h ds)) ≡ or_found o (found_of (find h es))
+  pub found : option_or o' (found_of (find h ds)) ≡ option_or o (found_of (find h es))
   pub seen : all_noted any_handle m' s' ds ≡ all_noted any_handle m s es
 
-pub gathering_start : (h : ℕ) (es : List Entry) (m : List ℕ) (o : Found) (s : Seen) → Gathering h es m o s es m o s
+pub gathering_start : (h : ℕ) (es : List Entry) (m : List ℕ) (o : Option Found) (s : Seen) → Gathering h es m o s es m o s
 gathering_start h es m o s = record { map = refl; found = refl; seen = refl }
 
-pub or_nothing : (o : Found) → or_found o Found.None ≡ o
-or_nothing (Found.At p n) = refl
-or_nothing Found.None = refl
-
-or_or : (o u v : Found) → or_found (or_found o u) v ≡ or_found o (or_found u v)
-or_or (Found.At p n) u v = refl
-or_or Found.None u v = refl
-
-found_first : (t : Bool) (e : Entry) (o : Option Entry) → or_found (found_if t e.place (length e.words)) (found_of o) ≡ found_of (cond t (some e) o)
+found_first : (t : Bool) (e : Entry) (o : Option Entry) → option_or (then_some t (record { place = e.place; words = length e.words })) (found_of o) ≡ found_of (cond t (Some e) o)
 found_first true e o = refl
 found_first false e o = refl
 
-module _ {h : ℕ} {es : List Entry} {m : List ℕ} {o : Found} {s : Seen} {m' : List ℕ} {o' : Found} {s' : Seen} where
-  gathering_on : {ds : List Entry} {m'' : List ℕ} {o'' : Found} {s'' : Seen} (e : Entry) → Gathering h es m o s (e ∷ ds) m' o' s' → m'' ≡ marked m' (is_live e.handle) e.handle
-      → o'' ≡ or_found o' (found_if (live_of h e) e.place (length e.words)) → s'' ≡ noted m' s' (is_live e.handle) e.handle → Gathering h es m o s ds m'' o'' s''
+module _ {h : ℕ} {es : List Entry} {m : List ℕ} {o : Option Found} {s : Seen} {m' : List ℕ} {o' : Option Found} {s' : Seen} where
+  gathering_on : {ds : List Entry} {m'' : List ℕ} {o'' : Option Found} {s'' : Seen} (e : Entry) → Gathering h es m o s (e ∷ ds) m' o' s' → m'' ≡ marked m' (is_live e.handle) e.handle
+      → o'' ≡ option_or o' (then_some (live_of h e) (record { place = e.place; words = length e.words })) → s'' ≡ noted m' s' (is_live e.handle) e.handle → Gathering h es m o s ds m'' o'' s''
   gathering_on {ds} e g u v w =
       let a : is_noted any_handle e ≡ is_live e.handle = and-true (is_live e.handle) in
-      let f = found_if (live_of h e) e.place (length e.words) in
+      let f : Option Found = then_some (live_of h e) (record { place = e.place; words = length e.words }) in
       record {
         map = rw (u, ← a) g.map;
-        found = rw v (or_or o' f (found_of (find h ds)) ∙ ap (or_found o') (found_first (live_of h e) e (find h ds)) ∙ g.found);
+        found = rw v (or_or o' f (found_of (find h ds)) ∙ ap (option_or o') (found_first (live_of h e) e (find h ds)) ∙ g.found);
         seen = rw (u, w, ← a) g.seen;
       }
 
 -- some that stand together
-found_append : (h : ℕ) (x y : List Entry) → or_found (found_of (find h x)) (found_of (find h y)) ≡ found_of (find h (x ++ y))
+found_append : (h : ℕ) (x y : List Entry) → option_or (found_of (find h x)) (found_of (find h y)) ≡ found_of (find h (x ++ y))
 found_append h [] y = refl
 found_append h (e ∷ x) y = go (live_of h e) (found_append h x y)
   where
-    go : (b : Bool) → or_found (found_of (find h x)) (found_of (find h y)) ≡ found_of (find h (x ++ y))
-        → or_found (found_of (cond b (some e) (find h x))) (found_of (find h y)) ≡ found_of (cond b (some e) (find h (x ++ y)))
+    go : (b : Bool) → option_or (found_of (find h x)) (found_of (find h y)) ≡ found_of (find h (x ++ y))
+        → option_or (found_of (cond b (Some e) (find h x))) (found_of (find h y)) ≡ found_of (cond b (Some e) (find h (x ++ y)))
     go true ih = refl
     go false ih = ih
 
@@ -96,12 +89,12 @@ noted_append : (m : List ℕ) (s : Seen) (x y : List Entry) → all_noted any_ha
 noted_append m s [] y = refl
 noted_append m s (e ∷ x) y = noted_append (marked m (is_noted any_handle e) e.handle) (noted m s (is_noted any_handle e) e.handle) x y
 
-pub gathering_some : {h : ℕ} {es : List Entry} {m : List ℕ} {o : Found} {s : Seen} (x : List Entry) {y : List Entry} {m' m'' : List ℕ} {o' o'' : Found} {s' s'' : Seen}
-    → Gathering h es m o s (x ++ y) m' o' s' → m'' ≡ all_marked any_handle m' x → o'' ≡ or_found o' (found_of (find h x)) → s'' ≡ all_noted any_handle m' s' x → Gathering h es m o s y m'' o'' s''
+pub gathering_some : {h : ℕ} {es : List Entry} {m : List ℕ} {o : Option Found} {s : Seen} (x : List Entry) {y : List Entry} {m' m'' : List ℕ} {o' o'' : Option Found} {s' s'' : Seen}
+    → Gathering h es m o s (x ++ y) m' o' s' → m'' ≡ all_marked any_handle m' x → o'' ≡ option_or o' (found_of (find h x)) → s'' ≡ all_noted any_handle m' s' x → Gathering h es m o s y m'' o'' s''
 gathering_some {h} x {y} {m'} {o' = o'} {s'} g u v w =
     record {
       map = rw u (marked_append m' x y ∙ g.map);
-      found = rw v (or_or o' (found_of (find h x)) (found_of (find h y)) ∙ ap (or_found o') (found_append h x y) ∙ g.found);
+      found = rw v (or_or o' (found_of (find h x)) (found_of (find h y)) ∙ ap (option_or o') (found_append h x y) ∙ g.found);
       seen = rw (u, w) (noted_append m' s' x y ∙ g.seen);
     }
 
@@ -168,8 +161,8 @@ always h k z = go (eqb h 0) refl
 
 module _ {p : List ℕ} {b h : ℕ} {m : List ℕ} {w : Walk} {n k : ℕ} (e : k ≡ handle_of (get_or p w.stop 0)) where
   -- invalidated
-  pub walked_over : {o : Found} → k ≡ 0 → o ≡ w.found → WalkedOn p b h m w n (record { stop = w.stop + n; live = w.live; found = o; seen = w.seen }) m
-  unfolding kept_of
+  pub walked_over : {o : Option Found} → k ≡ 0 → o ≡ w.found → WalkedOn p b h m w n (record { stop = w.stop + n; live = w.live; found = o; seen = w.seen }) m
+  unfolding or_if
   walked_over z q =
       let d : not (not (eqb k 0)) ≡ true = rw (eq-eqb k 0 z) in
       record {
@@ -180,13 +173,13 @@ module _ {p : List ℕ} {b h : ℕ} {m : List ℕ} {w : Walk} {n k : ℕ} (e : k
         counts = counted_dead k n z;
         small = omega arith;
         live = omega arith;
-        found = rw (z, never h) (q ∙ sym (or_nothing w.found));
+        found = rw (z, never h) (q ∙ sym (or_none w.found));
         seen = unnoted (not (eqb k 0)) m k d w.seen;
         map = unmarked (not (eqb k 0)) m k d;
       }
 
   -- live
-  pub walked_live : {o : Found} {s : Seen} {m' : List ℕ} → (k ≡ 0 → ⊥) → o ≡ kept_of w.found (eqb k h) (b + w.stop) (n - 1) → s ≡ noted m w.seen true k → m' ≡ marked m true k
+  pub walked_live : {o : Option Found} {s : Seen} {m' : List ℕ} → (k ≡ 0 → ⊥) → o ≡ kept_of w.found (eqb k h) (b + w.stop) (n - 1) → s ≡ noted m w.seen true k → m' ≡ marked m true k
       → WalkedOn p b h m w n (record { stop = w.stop + n; live = w.live + n; found = o; seen = s }) m'
   walked_live z o s q =
       record {
@@ -205,25 +198,25 @@ module _ {p : List ℕ} {b h : ℕ} {m : List ℕ} {w : Walk} {n k : ℕ} (e : k
 pub ruleset steps = (walked_over, walked_live)
 
 -- ---- a page is walked
-pub record Touring (p : List ℕ) (b h : ℕ) (m : List ℕ) (o : Found) (s : Seen) (w : Walk) (m' : List ℕ) : Type 0 where
+pub record Touring (p : List ℕ) (b h : ℕ) (m : List ℕ) (o : Option Found) (s : Seen) (w : Walk) (m' : List ℕ) : Type 0 where
   pub walking : Walking p w.stop
   pub counting : Counting p w.stop w.live
   pub gathering : Gathering h (entries_in b p 2) m o s (entries_in b p w.stop) m' w.found w.seen
 
 -- it was
-pub record Toured (p : List ℕ) (b h : ℕ) (m : List ℕ) (o : Found) (s : Seen) (r : Walk) (m' : List ℕ) : Type 0 where
+pub record Toured (p : List ℕ) (b h : ℕ) (m : List ℕ) (o : Option Found) (s : Seen) (r : Walk) (m' : List ℕ) : Type 0 where
   pub stop : r.stop ≡ stop p
   pub inside : r.stop ≤ length p
   pub live : r.live ≡ live_words (placed 2 (items p))
   pub below : r.live ≤ length p
-  pub found : r.found ≡ or_found o (found_of (find h (placed (b + 2) (items p))))
+  pub found : r.found ≡ option_or o (found_of (find h (placed (b + 2) (items p))))
   pub seen : r.seen ≡ all_noted any_handle m s (placed (b + 2) (items p))
   pub map : m' ≡ all_marked any_handle m (placed (b + 2) (items p))
 
-pub touring_start : {p : List ℕ} {b h : ℕ} {m : List ℕ} {o : Found} {s : Seen} → 2 ≤ length p → Touring p b h m o s (record { stop = 2; live = 0; found = o; seen = s }) m
+pub touring_start : {p : List ℕ} {b h : ℕ} {m : List ℕ} {o : Option Found} {s : Seen} → 2 ≤ length p → Touring p b h m o s (record { stop = 2; live = 0; found = o; seen = s }) m
 touring_start {p} {b} {h} {m} {o} {s} l = record { walking = walking_start l; counting = counting_start l; gathering = gathering_start h (entries_in b p 2) m o s }
 
-module _ {p : List ℕ} {b h : ℕ} {m : List ℕ} {o : Found} {s : Seen} {w : Walk} {m' : List ℕ} (t : Touring p b h m o s w m') where
+module _ {p : List ℕ} {b h : ℕ} {m : List ℕ} {o : Option Found} {s : Seen} {w : Walk} {m' : List ℕ} (t : Touring p b h m o s w m') where
   pub tour_inside : w.stop ≤ length p
   tour_inside = t.walking.inside
 
@@ -239,7 +232,7 @@ module _ {p : List ℕ} {b h : ℕ} {m : List ℕ} {o : Found} {s : Seen} {w : W
           inside = i;
           live = counting_end t.counting e z;
           below = omega arith;
-          found = sym (or_nothing w.found) ∙ rw (d, page_entries b p) at g.found;
+          found = sym (or_none w.found) ∙ rw (d, page_entries b p) at g.found;
           seen = rw (d, page_entries b p) at g.seen;
           map = rw (d, page_entries b p) at g.map;
         }
@@ -248,7 +241,7 @@ module _ {p : List ℕ} {b h : ℕ} {m : List ℕ} {o : Found} {s : Seen} {w : W
     standing z h = record { some = omega arith; inside = (walking_on t.walking e z).inside; below = t.counting.below; fits = h }
 
     pub touring_on : (n ≡ 0 → ⊥) → {r : Walk} {m'' : List ℕ} → WalkedOn p b h m' w n r m'' → Touring p b h m o s r m''
-    unfolding kept_of
+    unfolding or_if
     touring_on z x =
         let g = rw (entries_on b p w.stop n e z) at t.gathering in
         let q = x.handle in
@@ -260,15 +253,4 @@ module _ {p : List ℕ} {b h : ℕ} {m : List ℕ} {o : Found} {s : Seen} {w : W
           gathering = rw x.stop (gathering_on (entry_in b p w.stop n e z) g (rw (← q) x.map) (rw (← q, entry_words p w.stop n e z) x.found) (rw (← q) x.seen));
         }
 
--- a walk that began with what was found, made anew
-pub touring_anew : {p : List ℕ} {b h : ℕ} {m : List ℕ} {o r : Found} {s : Seen} {w : Walk} {m' : List ℕ} {n : ℕ} → Touring p b h m r s w m' → r ≡ o → n ≡ length_at p w.stop → n ≡ 0
-    → Toured p b h m o s w m'
-touring_anew t q e z = rw q at (touring_end t e z)
-
-pub anew_at : {o : Found} {p n : ℕ} → o ≡ Found.At p n → Found.At p n ≡ o
-anew_at = sym
-
-pub anew_none : {o : Found} → o ≡ Found.None → Found.None ≡ o
-anew_none = sym
-
-pub ruleset tours = (touring_start, tour_inside, standing, touring_on, touring_anew)
+pub ruleset tours = (touring_start, tour_inside, standing, touring_on, touring_end)

@@ -13,7 +13,8 @@ ghost use Rattle.rules.specs.Walk.{stop, kind_of};
 ghost use Rattle.rules.specs.Refusals.{is_listed, area_quota};
 ghost use Rattle.rules.specs.Places.{Right};
 ghost use Rattle.entries.specs.Noting.{blank_map};
-ghost use Rattle.survey.specs.Passing.{lower_of, Counted, summary_on, Fitting, Passing, RoomSought, AllPassed};
+ghost use Rattle.survey.specs.Passing.{Counted, summary_on, Fitting, Passing, RoomSought, AllPassed};
+ghost use Rattle.survey.specs.Walking.{or_if};
 ghost use Rattle.survey.specs.Surveying.{looked, surveyed};
 
 mod walk; // walk.rt: the entries of one page
@@ -21,27 +22,25 @@ mod walk; // walk.rt: the entries of one page
 use area::{
     is_damage, is_free, is_sealed, is_sound, names, page_part, recovery_kind, wrong_geometry,
 };
-use entries::Found;
 use entries::doubles::{Seen, confirmed};
-use rules::{Area, FoundSize, PageSize, Recovery, Refusal};
+use rules::{Area, Found, PageSize, Recovery, Refusal};
 use walk::{Walk, walk_on, walk_page};
 
-// The page that a search over pages has found, if one passes, and the place in it where its walk
-// stops.
+// A page that a search over pages has found, and the place in it where its walk stops.
 #[derive(Clone, Copy)]
-pub enum FoundPage {
-    At { index: usize, stop: usize },
-    None,
+pub struct FoundPage {
+    pub index: usize,
+    pub stop: usize,
 }
 
 // What is found of a ready area: the live entry of a handle, the live words, the lowest page whose
 // seal leaves the room for an entry, and the lowest whose compaction makes it.
 #[derive(Clone, Copy)]
 pub struct View {
-    pub entry: Found,
+    pub entry: Option<Found>,
     pub live: usize,
-    pub room: FoundPage,
-    pub compact: FoundPage,
+    pub room: Option<FoundPage>,
+    pub compact: Option<FoundPage>,
 }
 
 // What is found of an area whose R is free and whose pages are sealed: what is found of a ready one,
@@ -52,29 +51,14 @@ pub struct Sight {
     pub windows: u64,
 }
 
-// What a look gives: a refusal, that R is not free or a page not sealed, or what it found.
-#[derive(Clone, Copy)]
-pub enum Looked {
-    Refused(Refusal),
-    Unsealed,
-    Sealed(Sight),
-}
-
-// What a survey gives: a refusal, or what it found.
-#[derive(Clone, Copy)]
-pub enum Surveyed {
-    Refused(Refusal),
-    Ready(View),
-}
-
 // The size of pages of so many words.
 fn size_of(words: usize) -> PageSize
     requires { is_listed (size_of words) ≡ true }
     ensures { words_of result ≡ words }
 {
     match PageSize::of(words) {
-        FoundSize::Is(size) => size,
-        FoundSize::None => PageSize::Small,
+        Some(size) => size,
+        None => PageSize::Small,
     }
 }
 
@@ -108,41 +92,28 @@ struct Summary {
     sound: bool,
     sealed: bool,
     seen: Seen,
-    entry: Found,
+    entry: Option<Found>,
     live: usize,
-    compact: FoundPage,
+    compact: Option<FoundPage>,
 }
 
 // What a search for room gives: the lowest page whose seal leaves it, how many pages were passed, and
 // what is known of these.
 #[derive(Clone, Copy)]
 struct Sought {
-    room: FoundPage,
+    room: Option<FoundPage>,
     passed: usize,
     summary: Summary,
 }
 
-// The page that was found before, or else a page that passes. Each arm makes its answer anew, since
-// to copy one takes longer.
-fn lower(found: FoundPage, passes: bool, index: usize, stop: usize) -> FoundPage
-    ensures { result ≡ lower_of found passes index stop }
+// The page that was found before, or else another, if it passes.
+fn lower(found: Option<FoundPage>, passes: bool, page: FoundPage) -> Option<FoundPage>
+    ensures { result ≡ or_if found passes page }
 {
-    match found {
-        FoundPage::At {
-            index: first,
-            stop: place,
-        } => FoundPage::At {
-            index: first,
-            stop: place,
-        },
-        FoundPage::None => {
-            if passes {
-                FoundPage::At { index, stop }
-            } else {
-                FoundPage::None
-            }
-        }
+    if passes {
+        return found.or(Some(page));
     }
+    found
 }
 
 // What is known with the page that was walked.
@@ -164,6 +135,7 @@ fn summary_on(
     let seen = walk.seen;
     let entry = walk.found;
     let live = walk.live;
+    let stop = walk.stop;
     let sound = names(recovery, index) | is_sound(kind);
     let sealed = is_sealed(kind);
     let makes = live + asked.needed <= size.open_words();
@@ -173,7 +145,7 @@ fn summary_on(
         seen,
         entry,
         live: before.live + live,
-        compact: lower(compact, makes, index, walk.stop),
+        compact: lower(compact, makes, FoundPage { index, stop }),
     }
 }
 
@@ -208,15 +180,15 @@ fn seek_room(flash: &[u32], area: Area, asked: Asked, map: &mut [u64; 16]) -> So
         sound: true,
         sealed: true,
         seen: Seen { top: 0, windows: 0 },
-        entry: Found::None,
+        entry: None,
         live: 0,
-        compact: FoundPage::None,
+        compact: None,
     };
     let mut index: usize = 0;
     'pages: loop {
         if area.pages <= index {
             break 'pages Sought {
-                room: FoundPage::None,
+                room: None,
                 passed: index,
                 summary,
             };
@@ -238,7 +210,7 @@ fn seek_room(flash: &[u32], area: Area, asked: Asked, map: &mut [u64; 16]) -> So
                 let summary = summary_on(page, area, asked, summary, index, walk);
                 if stop + asked.needed <= last {
                     break 'pages Sought {
-                        room: FoundPage::At { index, stop },
+                        room: Some(FoundPage { index, stop }),
                         passed: index + 1,
                         summary,
                     };
@@ -273,17 +245,22 @@ fn pass_pages(flash: &[u32], area: Area, asked: Asked) -> Sought
 }
 
 // The checks that every request but a format begins with: GEOMETRY, DAMAGED; and, if R is free and
-// all pages are sealed, what is found for a handle and for an entry of so many words.
-pub fn look(flash: &[u32], area: Area, handle: u32, needed: usize) -> Looked
+// all pages are sealed, what is found for a handle and for an entry of so many words, else nothing.
+pub fn look(
+    flash: &[u32],
+    area: Area,
+    handle: u32,
+    needed: usize,
+) -> Result<Option<Sight>, Refusal>
     requires { needed ≤ longest }
     ensures { result ≡ looked area flash.now handle needed }
 {
     if wrong_geometry(flash, area) {
-        return Looked::Refused(Refusal::Geometry);
+        return Err(Refusal::Geometry);
     }
     let recovery = recovery_kind(flash, area);
     if is_damage(recovery) {
-        return Looked::Refused(Refusal::Damaged);
+        return Err(Refusal::Damaged);
     }
     let size = size_of(area.words);
     let asked = Asked {
@@ -295,16 +272,16 @@ pub fn look(flash: &[u32], area: Area, handle: u32, needed: usize) -> Looked
     let sought = pass_pages(flash, area, asked);
     let summary = sought.summary;
     if !summary.sound {
-        return Looked::Refused(Refusal::Damaged);
+        return Err(Refusal::Damaged);
     }
     if !(is_free(recovery) & summary.sealed) {
-        return Looked::Unsealed;
+        return Ok(None);
     }
     let seen = summary.seen;
     let entry = summary.entry;
     let room = sought.room;
     let compact = summary.compact;
-    Looked::Sealed(Sight {
+    Ok(Some(Sight {
         view: View {
             entry,
             live: summary.live,
@@ -312,24 +289,20 @@ pub fn look(flash: &[u32], area: Area, handle: u32, needed: usize) -> Looked
             compact,
         },
         windows: seen.windows,
-    })
+    }))
 }
 
 // The checks that write, read, delete and search begin with: GEOMETRY, DAMAGED, UNREADY; and, if all
 // are passed, what is found for a handle and for an entry of so many words.
-pub fn survey(flash: &[u32], area: Area, handle: u32, needed: usize) -> Surveyed
+pub fn survey(flash: &[u32], area: Area, handle: u32, needed: usize) -> Result<View, Refusal>
     requires { needed ≤ longest }
     ensures { result ≡ surveyed area flash.now handle needed }
 {
-    match look(flash, area, handle, needed) {
-        Looked::Refused(why) => Surveyed::Refused(why),
-        Looked::Unsealed => Surveyed::Refused(Refusal::Unready),
-        Looked::Sealed(sight) => {
-            if confirmed(flash, area, sight.windows) {
-                return Surveyed::Refused(Refusal::Unready);
-            }
-            let view = sight.view;
-            Surveyed::Ready(view)
-        }
+    let Some(sight) = look(flash, area, handle, needed)? else {
+        return Err(Refusal::Unready);
+    };
+    if confirmed(flash, area, sight.windows) {
+        return Err(Refusal::Unready);
     }
+    Ok(sight.view)
 }

@@ -2,13 +2,13 @@
 // Promises are the definitions of `rules`, and those of `Walking`.
 //
 // Every function here is proved, and none stores.
-ghost use Rattle.std.specs.Prelude.{◌≡◌, ◌+◌, ◌≤◌, length};
+ghost use Rattle.std.specs.Prelude.{◌≡◌, ◌+◌, ◌-◌, ◌≤◌, length};
 ghost use Rattle.std.specs.Int.{w64};
 ghost use Rattle.std.proofs.Common.{Fits};
 ghost use Rattle.survey.specs.Walking.{kept_of, Standing, WalkedOn, Toured};
 
-use entries::Found;
 use entries::doubles::Seen;
+use rules::Found;
 
 // What a walk over a page's entries has come to: the place, which is in the end where the walk stops,
 // the page's live words before it, and the entry found and the handles noted so far.
@@ -16,41 +16,33 @@ use entries::doubles::Seen;
 pub struct Walk {
     pub stop: usize,
     pub live: usize,
-    pub found: Found,
+    pub found: Option<Found>,
     pub seen: Seen,
 }
 
-// What was found before, or else an entry that is the wanted one. Each arm makes its answer anew,
-// as `anew` does, since to copy one takes longer.
-fn kept(found: Found, wanted: bool, place: usize, words: usize) -> Found
-    ensures { result ≡ kept_of found wanted place words }
+// The entry of so many words at a place of the page that begins at a place of the run. A walk comes
+// here once at most: not inlined, it takes no registers of the walk's.
+#[cold]
+#[inline(never)]
+fn own_entry(base: usize, at: usize, words: usize) -> Found
+    requires { Fits w64 (base + at) × (1 ≤ words) }
+    ensures { result ≡ record { place = base + at; words = words - 1 } }
 {
-    match found {
-        Found::At {
-            place: first,
-            words: count,
-        } => Found::At {
-            place: first,
-            words: count,
-        },
-        Found::None => {
-            if wanted {
-                Found::At { place, words }
-            } else {
-                Found::None
-            }
-        }
+    Found {
+        place: base + at,
+        words: words - 1,
     }
 }
 
-// What was found, made anew.
-fn anew(found: Found) -> Found
-    ensures { result ≡ found }
+// What was found before, or else the entry of so many words at a place, if it is the wanted one.
+fn kept(found: Option<Found>, wanted: bool, base: usize, at: usize, words: usize) -> Option<Found>
+    requires { Fits w64 (base + at) × (1 ≤ words) }
+    ensures { result ≡ kept_of found wanted (base + at) (words - 1) }
 {
-    match found {
-        Found::At { place, words } => Found::At { place, words },
-        Found::None => Found::None,
+    if !wanted {
+        return found;
     }
+    found.or(Some(own_entry(base, at, words)))
 }
 
 // Walks on over the entry of so many words at the place that a walk has come to, in the page that
@@ -76,12 +68,12 @@ pub fn walk_on(
         return Walk {
             stop,
             live,
-            found: anew(found),
+            found,
             seen,
         };
     }
     let seen = entries::doubles::note(map, seen, true, own);
-    let found = kept(found, own == handle, base + at, words - 1);
+    let found = kept(found, own == handle, base, at, words);
     Walk {
         stop,
         live: live + words,
@@ -97,7 +89,7 @@ pub fn walk_page(
     base: usize,
     handle: u32,
     map: &mut [u64; 16],
-    found: Found,
+    found: Option<Found>,
     seen: Seen,
 ) -> Walk
     requires { (2 ≤ length page.now) × Fits w64 (base + length page.now) }
@@ -106,7 +98,7 @@ pub fn walk_page(
     let mut walk = Walk {
         stop: 2,
         live: 0,
-        found: anew(found),
+        found,
         seen,
     };
     loop {

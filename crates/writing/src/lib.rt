@@ -8,7 +8,7 @@
 #![tactic(auto)]
 
 ghost use Rattle.std.specs.Prelude.{true, [], ◌∷◌, ◌++◌, ◌≡◌, ◌≤◌, ◌<◌, length};
-ghost use Rattle.std.proofs.Math.Option.{none};
+ghost use Rattle.std.specs.Option.{option_or};
 ghost use Rattle.flash.specs.Stores.{puts, ◌then◌, Ran};
 ghost use Rattle.rules.specs.Words.{header, seal};
 ghost use Rattle.rules.specs.Walk.{entry_length, stop};
@@ -19,12 +19,11 @@ ghost use Rattle.pages.specs.Steps.{entries_at};
 ghost use Rattle.entries.specs.Ahead.{found_of};
 ghost use Rattle.survey.specs.Surveying.{view_of};
 ghost use Rattle.stores.specs.Making.{data_words};
-ghost use Rattle.writing.specs.Moving.{moved_of, append_over};
+ghost use Rattle.writing.specs.Moving.{append_over};
 
-use entries::Found;
 use flash::Power;
-use rules::{Area, SEAL};
-use survey::{FoundPage, View};
+use rules::{Area, Found, SEAL};
+use survey::View;
 
 // The header of an entry of so many words.
 fn header(handle: u32, words: usize) -> u32
@@ -50,7 +49,7 @@ fn append(
     area: Area,
     index: usize,
     end: usize,
-    old: Found,
+    old: Option<Found>,
     handle: u32,
     data: &[u32],
     power: Power,
@@ -64,30 +63,30 @@ fn append(
 }
 
 // The first live entry of a handle from a place of a run on, which ends where the page does.
-fn find_ahead(run: &[u32], start: usize, handle: u32) -> Found
+fn find_ahead(run: &[u32], start: usize, handle: u32) -> Option<Found>
     ensures { (result ≡ found_of (find handle (entries_at run.now start))) × (data_words result ≤ length run.now) }
 {
     if handle == 0 {
-        return Found::None;
+        return None;
     }
     let mut at = start;
     loop {
         let length = pages::length_at(run, at);
         if length == 0 {
-            return Found::None;
+            return None;
         }
         if pages::handle_of(run[at]) == handle {
-            return Found::At {
+            return Some(Found {
                 place: at,
                 words: length - 1,
-            };
+            });
         }
         at += length;
     }
 }
 
 // The first live entry of a handle in a page.
-fn find_in(flash: &[u32], area: Area, index: usize, handle: u32) -> Found
+fn find_in(flash: &[u32], area: Area, index: usize, handle: u32) -> Option<Found>
     requires { Right area flash.now × (index < area.pages) }
     ensures { (result ≡ found_of (find handle (page_entries area flash.now index))) × (data_words result ≤ 262144) }
 {
@@ -97,14 +96,17 @@ fn find_in(flash: &[u32], area: Area, index: usize, handle: u32) -> Found
 }
 
 // A handle's entry behind the compaction of a page: in that page, or else where it was before.
-fn moved(flash: &[u32], area: Area, index: usize, handle: u32, before: Found) -> Found
+fn moved(
+    flash: &[u32],
+    area: Area,
+    index: usize,
+    handle: u32,
+    before: Option<Found>,
+) -> Option<Found>
     requires { Right area flash.now × (index < area.pages) × (data_words before ≤ 262144) }
-    ensures { (result ≡ moved_of (found_of (find handle (page_entries area flash.now index))) before) × (data_words result ≤ 262144) }
+    ensures { (result ≡ option_or (found_of (find handle (page_entries area flash.now index))) before) × (data_words result ≤ 262144) }
 {
-    match find_in(flash, area, index, handle) {
-        Found::At { place, words } => Found::At { place, words },
-        Found::None => before,
-    }
+    find_in(flash, area, index, handle).or(before)
 }
 
 // A page compacted, and an entry behind those that it keeps; last, the handle's old entry, found
@@ -113,7 +115,7 @@ fn compact_and_append(
     flash: &mut [u32],
     area: Area,
     index: usize,
-    before: Found,
+    before: Option<Found>,
     handle: u32,
     data: &[u32],
     power: Power,
@@ -137,14 +139,12 @@ fn append_compacted(
     power: Power,
 ) -> Power
     requires { Right area flash.old × (ready area flash.old ≡ true) × (view ≡ view_of area flash.old handle (entry_length «data».now)) × (handle < 65536) × (length «data».now ≤ 32) }
-    ensures { Ran (append_to area handle «data».now none flash.old) power flash.old result flash.new }
+    ensures { Ran (append_to area handle «data».now None flash.old) power flash.old result flash.new }
 {
-    let page = view.compact;
-    match page {
-        FoundPage::None => power,
-        FoundPage::At { index, stop: _ } => {
-            let before = view.entry;
-            compact_and_append(flash, area, index, before, handle, data, power)
+    match view.compact {
+        None => power,
+        Some(page) => {
+            compact_and_append(flash, area, page.index, view.entry, handle, data, power)
         }
     }
 }
@@ -161,12 +161,11 @@ pub fn write(
     requires { Right area flash.old × (ready area flash.old ≡ true) × (view ≡ view_of area flash.old handle (entry_length «data».now)) × (handle < 65536) × (length «data».now ≤ 32) }
     ensures { Ran (append_to area handle «data».now (room_page area flash.old (entry_length «data».now)) flash.old) power flash.old result flash.new }
 {
-    let page = view.room;
-    match page {
-        FoundPage::None => append_compacted(flash, area, view, handle, data, power),
-        FoundPage::At { index, stop } => {
+    match view.room {
+        None => append_compacted(flash, area, view, handle, data, power),
+        Some(page) => {
             let old = view.entry;
-            append(flash, area, index, stop, old, handle, data, power)
+            append(flash, area, page.index, page.stop, old, handle, data, power)
         }
     }
 }

@@ -12,5 +12,5 @@ returns-then-area-gt255 c = search (rules, geometries)
 pub returns-in-None : goal.returns-in-None
 returns-in-None c = search (rules, geometries)
 
-pub returns-in-Is : goal.returns-in-Is
-returns-in-Is c = search (rules, geometries)
+pub returns-in-Some : goal.returns-in-Some
+returns-in-Some c = search (rules, geometries)

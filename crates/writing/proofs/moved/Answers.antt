@@ -1,10 +1,7 @@
--- `moved` prefers what the page holds. Assumes nothing.
+-- `moved` looks in the page first. Assumes nothing.
 use Rattle.std.proofs.Common.{rules}
 use Rattle.writing.specs.Moving.{moves}
 use Rattle.writing.proofs.moved.Goals as goal
 
-pub returns-in-At : goal.returns-in-At
-returns-in-At c = search (rules, moves)
-
-pub returns-in-None : goal.returns-in-None
-returns-in-None c = search (rules, moves)
+pub returns : goal.returns
+returns c = search (rules, moves)

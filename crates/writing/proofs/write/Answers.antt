@@ -9,5 +9,5 @@ append-requires c = search (rules, appends)
 pub returns-in-None : goal.returns-in-None
 returns-in-None c = search (rules, appends)
 
-pub returns-in-At : goal.returns-in-At
-returns-in-At c = search (rules, appends)
+pub returns-in-Some : goal.returns-in-Some
+returns-in-Some c = search (rules, appends)
