@@ -14,13 +14,11 @@ ghost use Rattle.rules.specs.Places.{Right};
 use rules::{Area, Kind, PageSize, Recovery};
 
 // Whether no such area fits the run: the number of pages, the page size or the run's length is wrong.
+#[tactic(auto, using(crate::specs::Checks::geometries))]
 pub fn wrong_geometry(flash: &[u32], area: Area) -> bool
     ensures { result ≡ wrong_geometry area flash.now }
 {
-    if area.pages < 1 {
-        return true;
-    }
-    if 255 < area.pages {
+    if !(1..=255).contains(&area.pages) {
         return true;
     }
     match PageSize::of(area.words) {
@@ -30,6 +28,7 @@ pub fn wrong_geometry(flash: &[u32], area: Area) -> bool
 }
 
 // The words of a page; the page behind the last one is R.
+#[tactic(auto, using(crate::specs::Checks::parts))]
 pub fn page_part(flash: &[u32], area: Area, index: usize) -> &[u32]
     requires { Right area flash.now × (index ≤ area.pages) }
     ensures { (result.now ≡ page area flash.now index) × (length result.now ≡ area.words) }
@@ -63,56 +62,33 @@ pub fn recovery_kind(flash: &[u32], area: Area) -> Recovery
 pub fn is_sealed(found: Kind) -> bool
     ensures { result ≡ is_sealed found }
 {
-    match found {
-        Kind::Sealed => true,
-        Kind::Torn => false,
-        Kind::Neither => false,
-    }
+    found == Kind::Sealed
 }
 
 // Whether a page is sealed or torn.
 pub fn is_sound(found: Kind) -> bool
     ensures { result ≡ is_sound found }
 {
-    match found {
-        Kind::Sealed => true,
-        Kind::Torn => true,
-        Kind::Neither => false,
-    }
+    matches!(found, Kind::Sealed | Kind::Torn)
 }
 
 // Whether R is free.
 pub fn is_free(found: Recovery) -> bool
     ensures { result ≡ is_free found }
 {
-    match found {
-        Recovery::Free => true,
-        Recovery::Unfinished => false,
-        Recovery::Committed(_) => false,
-        Recovery::Damage => false,
-    }
+    found == Recovery::Free
 }
 
 // Whether R is damage.
 pub fn is_damage(found: Recovery) -> bool
     ensures { result ≡ is_damage found }
 {
-    match found {
-        Recovery::Free => false,
-        Recovery::Unfinished => false,
-        Recovery::Committed(_) => false,
-        Recovery::Damage => true,
-    }
+    found == Recovery::Damage
 }
 
 // Whether R is committed and names a page.
 pub fn names(found: Recovery, index: usize) -> bool
     ensures { result ≡ names found index }
 {
-    match found {
-        Recovery::Free => false,
-        Recovery::Unfinished => false,
-        Recovery::Committed(named) => index == named,
-        Recovery::Damage => false,
-    }
+    found == Recovery::Committed(index)
 }

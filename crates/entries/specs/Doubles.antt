@@ -2,7 +2,7 @@
 -- cursor changes nothing of what is ahead of it. Assumes nothing.
 use Rattle.std.specs.Prelude.{◌≡◌, List, [], ◌∷◌, ◌++◌, Bool, not, ◌&&◌, ◌||◌, get_or, take, drop, eqb}
 use Rattle.std.proofs.Math.Path.{refl, sym, ap}
-use Rattle.std.proofs.Common.{◌∙◌, true≢false, ⊎_elim, arith, mod-lt, drop-drop, drop-set-lt, eq-eqb, Fits}
+use Rattle.std.proofs.Common.{◌∙◌, true≢false, ⊎_elim, arith, mod-lt, drop-drop, drop-set-lt, eq-eqb, ne_eqb, Option, Some, None, Fits}
 use Rattle.std.proofs.Math.Bool.{true, false, cond}
 use Prim.Native.Nat.{ℕ, suc, zero, ◌+◌, ◌-◌, ◌≤◌, ◌<◌}
 use Rattle.std.proofs.Math.ListN.{length}
@@ -23,11 +23,19 @@ use Rattle.entries.specs.declared.Cursor.{Cursor}
 use Rattle.entries.specs.Ahead.{onward, ahead, behind, entry_of, Sound, Settled, drop_cut, ahead_end, ahead_on, entry_words}
 use Rattle.entries.specs.Noting.{beside}
 use Rattle.entries.specs.Repeats.{twice_in}
-use Rattle.entries.specs.Sweeping.{twice_by, windowed_start, windowed_aside}
+use Rattle.entries.specs.Sweeping.{live_twice, windowed_start, windowed_aside}
 
 -- one store, if it is to be made
 abbrev pub put_if : Bool → ℕ → ℕ → List Store
 put_if t at w = cond t (put at w ∷ []) []
+
+-- whether an entry of a handle goes, by the entries behind it: where one handle alone may be live twice, no other is looked for
+abbrev pub looked_for : Option ℕ → ℕ → Bool
+looked_for None h = true
+looked_for (Some k) h = eqb h k
+
+abbrev pub drops : Option ℕ → ℕ → List Entry → Bool
+drops o h es = looked_for o h && any_of (live_of h) es
 
 pub put_wanted : {p q : Power} {f g : List ℕ} {at w : ℕ} (t : Bool) → Ran (put at w ∷ []) p f q g → t ≡ true → Ran (put_if t at w) p f q g
 put_wanted t x e = rw e x
@@ -90,18 +98,18 @@ module _ {a : Area} {f g : List ℕ} {c : Cursor} (s : Sound a f c) (k : Kept f 
   ahead_kept = rw (cut_kept k c.end, rest_kept)
 
 -- ---- the doubles before a cursor have been dropped: whatever the stores for what is ahead lead to, those for all entries lead to. It may be
--- known that the handle k alone is live twice
-pub record Dropping (b : Bool) (k : ℕ) (a : Area) (p₀ : Power) (f₀ : List ℕ) (c : Cursor) (p : Power) (f : List ℕ) : Type 0 where
+-- known that one handle alone is live twice
+pub record Dropping (o : Option ℕ) (a : Area) (p₀ : Power) (f₀ : List ℕ) (c : Cursor) (p : Power) (f : List ℕ) : Type 0 where
   pub right : Right a f
   pub sound : Sound a f c
-  pub alone : b && twice_in (beside k) (ahead a f c) ≡ false
+  pub alone : (k : ℕ) → o ≡ Some k → twice_in (beside k) (ahead a f c) ≡ false
   pub end : (r : Power) (h : List ℕ) → Ran (supersede (ahead a f c)) p f r h → Ran (supersede (entries a f₀)) p₀ f₀ r h
 
-pub dropping_start : {b : Bool} {k : ℕ} {a : Area} {p : Power} {f : List ℕ} {c : Cursor} → Settled a f (entries a f) c → Right a f → b && twice_in (beside k) (entries a f) ≡ false
-    → Dropping b k a p f c p f
-dropping_start s r o = record { right = r; sound = s.sound; alone = rw s.same o; end = λ q h x. rw s.same at x }
+pub dropping_start : {o : Option ℕ} {a : Area} {p : Power} {f : List ℕ} {c : Cursor} → Settled a f (entries a f) c → Right a f → ((k : ℕ) → o ≡ Some k → twice_in (beside k) (entries a f) ≡ false)
+    → Dropping o a p f c p f
+dropping_start s r n = record { right = r; sound = s.sound; alone = λ k e. rw s.same (n k e); end = λ q h x. rw s.same at x }
 
-pub dropping_end : {b : Bool} {k : ℕ} {a : Area} {p₀ p : Power} {f₀ f : List ℕ} {c : Cursor} → Dropping b k a p₀ f₀ c p f → c.length ≡ 0 → Ran (supersede (entries a f₀)) p₀ f₀ p f
+pub dropping_end : {o : Option ℕ} {a : Area} {p₀ p : Power} {f₀ f : List ℕ} {c : Cursor} → Dropping o a p₀ f₀ c p f → c.length ≡ 0 → Ran (supersede (entries a f₀)) p₀ f₀ p f
 dropping_end {p = p} {f = f} s z = s.end p f (rw (ahead_end s.sound z) (ran_none p f))
 
 -- an entry's length can be stored
@@ -113,85 +121,81 @@ length_small (w ∷ ws) = go (begins w ws)
     go true = mod-lt w (omega arith)
     go false = omega arith
 
-pub length_stored : {b : Bool} {k : ℕ} {a : Area} {p₀ p : Power} {f₀ f : List ℕ} {c : Cursor} → Dropping b k a p₀ f₀ c p f → Fits w32 c.length
+pub length_stored : {a : Area} {f : List ℕ} {c : Cursor} → Sound a f c → Fits w32 c.length
 unfolding length_at
-length_stored {f = f} {c = c} s = record { fits = omega (arith, s.sound.entry, length_small (drop c.place (take c.end f))) }
+length_stored {f = f} {c = c} s = record { fits = omega (arith, s.entry, length_small (drop c.place (take c.end f))) }
 
-module _ {l : Bool} {o : ℕ} {a : Area} {p₀ p q : Power} {f₀ f g : List ℕ} {c d : Cursor} (t : Bool) (s : Dropping l o a p₀ f₀ c p f) (w : Settled a f (behind a f c) d)
-    (b : c.place < d.place) (x : Ran (put_if t c.place c.length) p f q g) where
+module _ {o : Option ℕ} {a : Area} {p₀ p q : Power} {f₀ f g : List ℕ} {c d : Cursor} (s : Dropping o a p₀ f₀ c p f) (w : Settled a f (behind a f c) d)
+    (b : c.place < d.place) (x : Ran (put_if (drops o (handle_of (get_or f c.place 0)) (ahead a f d)) c.place c.length) p f q g) (z : c.length ≡ 0 → ⊥) where
+  abbrev h : ℕ
+  h = handle_of (get_or f c.place 0)
+
+  abbrev t : Bool
+  t = drops o h (ahead a f d)
+
   kept : Kept f g d.place
   kept = record { long = ran_length x; words = ran_kept t c.place c.length d.place x b }
 
   same : ahead a g d ≡ behind a f c
   same = ahead_kept w.sound kept ∙ w.same
 
-  module _ (z : c.length ≡ 0 → ⊥) where
-    -- with each step there are fewer
-    pub dropping_fewer : length (ahead a g d) < length (ahead a f c)
-    dropping_fewer = rw (same, ahead_on s.sound z) (omega arith)
+  -- with each step there are fewer
+  pub dropping_fewer : length (ahead a g d) < length (ahead a f c)
+  dropping_fewer = rw (same, ahead_on s.sound z) (omega arith)
 
-    module _ {k : ℕ} (e : k ≡ handle_of (get_or f c.place 0)) (u : t ≡ not (l && not (eqb k o)) && any_of (live_of k) (ahead a f d)) where
-      here : l && ((not (eqb k o) && any_of (live_of k) (behind a f c)) || twice_in (beside o) (behind a f c)) ≡ false
-      unfolding entry_of
-      here = rw e (rw (ahead_on s.sound z) at s.alone)
+  here : (k : ℕ) → o ≡ Some k → (not (eqb h k) && any_of (live_of h) (behind a f c)) || twice_in (beside k) (behind a f c) ≡ false
+  unfolding entry_of
+  here k e = rw (ahead_on s.sound z) at (s.alone k e)
 
-      -- a handle that is not looked for is not live behind
-      looked : t ≡ any_of (live_of k) (behind a f c)
-      looked = (rw w.same at u) ∙ go l (not (eqb k o)) (any_of (live_of k) (behind a f c)) (twice_in (beside o) (behind a f c)) here
-        where
-          go : (i j m n : Bool) → i && ((j && m) || n) ≡ false → not (i && j) && m ≡ m
-          go true true true n y = absurd (true≢false y)
-          go true true false n y = refl
-          go true false m n y = refl
-          go false j m n y = refl
+  -- a handle that is not looked for is not live behind
+  looked : t ≡ any_of (live_of h) (behind a f c)
+  looked = rw w.same (go o refl)
+    where
+      none_other : (i j n : Bool) → (not i && j) || n ≡ false → i && j ≡ j
+      none_other true j n y = refl
+      none_other false true n y = absurd (true≢false y)
+      none_other false false n y = refl
 
-      stores_here : supersede (ahead a f c) ≡ put_if t c.place c.length ++ supersede (behind a f c)
-      unfolding entry_of
-      stores_here =
-          let v : any_of (live_of (handle_of (get_or f c.place 0))) (behind a f c) ≡ t = sym (looked ∙ rw e) in
-          ap supersede (ahead_on s.sound z) ∙ rw v (go t)
-        where
-          go : (b : Bool) → cond b (bare (entry_of f c) ∷ supersede (behind a f c)) (supersede (behind a f c)) ≡ put_if b c.place c.length ++ supersede (behind a f c)
-          go true = let n : length (entry_of f c).words + 1 ≡ c.length = omega (arith, entry_words s.sound z) in rw n
-          go false = refl
+      go : (u : Option ℕ) → o ≡ u → drops u h (behind a f c) ≡ any_of (live_of h) (behind a f c)
+      go None e = refl
+      go (Some k) e = none_other (eqb h k) (any_of (live_of h) (behind a f c)) (twice_in (beside k) (behind a f c)) (here k e)
 
-      pub dropping_on : Dropping l o a p₀ f₀ d q g
-      dropping_on =
-          record {
-            right = right_ran x s.right;
-            sound = sound_kept w.sound kept;
-            alone = rw same (rest l (not (eqb k o) && any_of (live_of k) (behind a f c)) (twice_in (beside o) (behind a f c)) here);
-            end = λ r h y. s.end r h (rw stores_here (ran_append x (rw same at y)));
-          }
-        where
-          rest : (i j n : Bool) → i && (j || n) ≡ false → i && n ≡ false
-          rest true true n y = absurd (true≢false y)
-          rest true false n y = y
-          rest false j n y = refl
+  stores_here : supersede (ahead a f c) ≡ put_if t c.place c.length ++ supersede (behind a f c)
+  unfolding entry_of
+  stores_here = ap supersede (ahead_on s.sound z) ∙ rw (sym looked) (go t)
+    where
+      go : (b : Bool) → cond b (bare (entry_of f c) ∷ supersede (behind a f c)) (supersede (behind a f c)) ≡ put_if b c.place c.length ++ supersede (behind a f c)
+      go true = let n : length (entry_of f c).words + 1 ≡ c.length = omega (arith, entry_words s.sound z) in rw n
+      go false = refl
 
-pub ruleset drops = (put_wanted, put_unwanted, dropping_start, dropping_on, dropping_fewer, dropping_end, length_stored, ran_length)
+  pub dropping_on : Dropping o a p₀ f₀ d q g
+  dropping_on =
+      record {
+        right = right_ran x s.right;
+        sound = sound_kept w.sound kept;
+        alone = λ k e. rw same (nor_right (not (eqb h k) && any_of (live_of h) (behind a f c)) (twice_in (beside k) (behind a f c)) (here k e));
+        end = λ r u y. s.end r u (rw stores_here (ran_append x (rw same at y)));
+      }
+
+pub ruleset drops_each = (put_wanted, put_unwanted, dropping_start, dropping_on, dropping_fewer, dropping_end, length_stored, ran_length)
 
 -- ---- whether a handle is looked for
-module _ (b : Bool) (k o : ℕ) (es : List Entry) where
-  pub unlooked : b && not (eqb k o) ≡ true → false ≡ not (b && not (eqb k o)) && any_of (live_of k) es
-  unlooked y = rw y
+pub looked_all : {o : Option ℕ} {r : Bool} (h : ℕ) (es : List Entry) → o ≡ None → r ≡ any_of (live_of h) es → r ≡ drops o h es
+looked_all h es e q = rw e q
 
-  pub is_looked : {r : Bool} → b && not (eqb k o) ≡ false → r ≡ any_of (live_of k) es → r ≡ not (b && not (eqb k o)) && any_of (live_of k) es
-  is_looked y q = q ∙ rw y
+module _ {o : Option ℕ} {k : ℕ} (h : ℕ) (es : List Entry) (e : o ≡ Some k) where
+  pub unlooked : (h ≡ k → ⊥) → false ≡ drops o h es
+  unlooked z = rw (e, ne_eqb h k z)
+
+  pub looked_one : {r : Bool} → h ≡ k → r ≡ any_of (live_of h) es → r ≡ drops o h es
+  looked_one z q = rw (e, eq-eqb h k z) q
 
 -- ---- no handle is live twice, and one alone
-pub alone_is : (r k : ℕ) (es : List Entry) → eqb r 0 ≡ not (twice_in (beside k) es) → eqb r 0 && twice_in (beside k) es ≡ false
-alone_is r k es e = rw e (go (twice_in (beside k) es))
-  where
-    go : (b : Bool) → not b && b ≡ false
-    go true = refl
-    go false = refl
-
 once_none : (es : List Entry) → twice es ≡ false → supersede es ≡ []
 once_none [] z = refl
 once_none (e ∷ es) z = rw (nor_left (any_of (live_of e.handle) es) (twice es) z) (once_none es (nor_right (any_of (live_of e.handle) es) (twice es) z))
 
-pub none_dropped : {p : Power} (a : Area) (f : List ℕ) (r : ℕ) → eqb r 0 ≡ not (twice_in (beside 0) (entries a f)) → r ≡ 0 → Ran (supersede (entries a f)) p f p f
-none_dropped {p} a f r e z = rw (once_none (entries a f) (sym (twice_by r (entries a f) e) ∙ ap not (eq-eqb r 0 z))) (ran_none p f)
+pub none_dropped : {p : Power} (a : Area) (f : List ℕ) → false ≡ twice_in (beside 0) (entries a f) → Ran (supersede (entries a f)) p f p f
+none_dropped {p} a f e = rw (once_none (entries a f) (sym (live_twice (entries a f)) ∙ sym e)) (ran_none p f)
 
-pub ruleset dropped = (unlooked, is_looked, alone_is, none_dropped, windowed_start, windowed_aside)
+pub ruleset dropped = (looked_all, unlooked, looked_one, none_dropped, windowed_start, windowed_aside)

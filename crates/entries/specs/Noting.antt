@@ -1,12 +1,11 @@
 -- A map of handles noted, what is kept beside it, and laws: which handles may have been noted twice. Assumes nothing.
-use Rattle.std.specs.Prelude.{◌≡◌, List, [], ◌∷◌, Bool, not, ◌&&◌, ℕ, suc, zero, ◌*◌, ◌/◌, ◌%◌, ◌^◌, ◌≤◌, ◌<◌, get_or, replicate, ltb, eqb}
-use Rattle.std.proofs.Math.Path.{refl}
-use Rattle.std.proofs.Common.{sym, ap, ◌∙◌, arith, mod-eq_of_lt}
+use Rattle.std.specs.Prelude.{◌≡◌, List, [], ◌∷◌, Bool, not, ◌&&◌, ℕ, ◌*◌, ◌/◌, ◌%◌, ◌^◌, ◌≤◌, ◌<◌, get_or, replicate, ltb, eqb}
+use Rattle.std.proofs.Common.{sym, ◌∙◌, arith, mod-eq_of_lt}
 use Rattle.std.proofs.Math.Bool.{true, false, cond}
 use Rattle.std.proofs.Math.Pow.{pow-lt}
 use borrow.Author.Tests.{lt-ltb, le-ltb, not-true, not-false}
 use Rattle.std.proofs.Math.ListN.{set}
-use Rattle.std.specs.Int.Bits.{bit_and, bit_or, or_zero_r, and_zero_r}
+use Rattle.std.specs.Int.Bits.{bit_and, bit_or}
 use Rattle.rules.specs.Words.{is_live}
 use Rattle.rules.specs.Areas.{Entry}
 use Rattle.entries.specs.declared.doubles.Seen.{Seen}
@@ -62,58 +61,30 @@ nothing = record { top = 0; windows = 0 }
 pub one_bit : (k : ℕ) → k < 64 → 1 * 2 ^ k % 18446744073709551616 ≡ 2 ^ k
 one_bit k h = let e : 1 * 2 ^ k ≡ 2 ^ k = omega arith in rw e (mod-eq_of_lt (pow-lt {i = k} {j = 64} h))
 
-module _ (t : Bool) (m : List ℕ) (h : ℕ) (q : not t ≡ true) where
-  pub unmarked : m ≡ marked m t h
-  unfolding marked
-  unmarked = rw (not-true t q)
+pub unmarked : (t : Bool) (m : List ℕ) (h : ℕ) → t ≡ false → m ≡ marked m t h
+unfolding marked
+unmarked t m h q = rw q
 
-  pub unnoted : (s : Seen) → s ≡ noted m s t h
+pub unnoted : (t : Bool) (m : List ℕ) (h : ℕ) → t ≡ false → (s : Seen) → s ≡ noted m s t h
+unfolding noted
+unnoted t m h q s = rw q
+
+pub mark_map : {b : ℕ} (m : List ℕ) (h : ℕ) → b ≡ 2 ^ (h % 64) → set m (slot h) (bit_or (get_or m (slot h) 0) b) ≡ marked m true h
+unfolding marked
+mark_map m h e = rw e
+
+module _ {b : Bool} (m : List ℕ) (h : ℕ) (e : b ≡ has m h) (s : Seen) where
+  pub note_higher : s.top < h → record { top = h; windows = s.windows } ≡ noted m s true h
   unfolding noted
-  unnoted s = rw (not-true t q)
-
--- a word that is set to what it is
-set_kept : (m : List ℕ) (i : ℕ) → set m i (get_or m i 0) ≡ m
-set_kept [] i = refl
-set_kept (x ∷ m) zero = refl
-set_kept (x ∷ m) (suc i) = ap (λ (u : List ℕ). x ∷ u) (set_kept m i)
-
-pub bit_wanted : {b : ℕ} (t : Bool) (k : ℕ) → t ≡ true → b ≡ 2 ^ k → b ≡ cond t (2 ^ k) 0
-bit_wanted t k q e = e ∙ rw q
-
-pub bit_unwanted : (t : Bool) (k : ℕ) → t ≡ false → 0 ≡ cond t (2 ^ k) 0
-bit_unwanted t k q = rw q
-
-module _ {b : ℕ} (t : Bool) (m : List ℕ) (h : ℕ) (e : b ≡ cond t (2 ^ (h % 64)) 0) where
-  pub mark_map : set m (slot h) (bit_or (get_or m (slot h) 0) b) ≡ marked m t h
-  unfolding marked
-  mark_map = rw e (go t)
-    where
-      go : (t : Bool) → set m (slot h) (bit_or (get_or m (slot h) 0) (cond t (2 ^ (h % 64)) 0)) ≡ cond t (set m (slot h) (bit_or (get_or m (slot h) 0) (2 ^ (h % 64)))) m
-      go true = refl
-      go false = rw (or_zero_r (get_or m (slot h) 0)) (set_kept m (slot h))
-
-  pub mark_has : not (eqb (bit_and (get_or m (slot h) 0) b) 0) ≡ t && has m h
-  mark_has = rw e (go t)
-    where
-      go : (t : Bool) → not (eqb (bit_and (get_or m (slot h) 0) (cond t (2 ^ (h % 64)) 0)) 0) ≡ t && has m h
-      go true = refl
-      go false = rw (and_zero_r (get_or m (slot h) 0))
-
-module _ {b : Bool} (t : Bool) (m : List ℕ) (h : ℕ) (q : not t ≡ false) (e : b ≡ t && has m h) (s : Seen) where
-  pub note_higher : s.top < h → record { top = h; windows = s.windows } ≡ noted m s t h
-  unfolding noted
-  note_higher l = rw (not-false t q, lt-ltb s.top h l)
+  note_higher l = rw (lt-ltb s.top h l)
 
   module _ (l : h ≤ s.top) where
-    was : (c : Bool) → b ≡ c → has m h ≡ c
-    was c z = sym (rw (not-false t q) at e) ∙ z
-
-    pub note_new : not b ≡ true → s ≡ noted m s t h
+    pub note_new : not b ≡ true → s ≡ noted m s true h
     unfolding noted
-    note_new z = rw (not-false t q, le-ltb s.top h l, was false (not-true b z))
+    note_new z = rw (le-ltb s.top h l, sym e ∙ not-true b z)
 
-    pub note_again : {w : ℕ} → not b ≡ false → w ≡ 2 ^ (h / 1024) → record { top = s.top; windows = bit_or s.windows w } ≡ noted m s t h
+    pub note_again : {w : ℕ} → not b ≡ false → w ≡ bit_or s.windows (2 ^ (h / 1024)) → record { top = s.top; windows = w } ≡ noted m s true h
     unfolding noted
-    note_again z y = rw (not-false t q, le-ltb s.top h l, was true (not-false b z), y)
+    note_again z y = rw (le-ltb s.top h l, sym e ∙ not-false b z, y)
 
-pub ruleset notes = (one_bit, bit_wanted, bit_unwanted, unmarked, unnoted, mark_map, mark_has, note_higher, note_new, note_again)
+pub ruleset notes = (one_bit, mark_map, note_higher, note_new, note_again)

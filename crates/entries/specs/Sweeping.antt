@@ -7,7 +7,6 @@ use Rattle.std.proofs.Math.Bool.{true, false, and-true, and-false}
 use Rattle.std.proofs.Math.Nat.{div-eq_of_lt}
 use Rattle.std.proofs.lemmas.List.{length-replicate, get_or-replicate}
 use Rattle.std.specs.Int.Bits.{bit_and, and_zero_l}
-use Rattle.std.proofs.lemmas.Bool.{not-true, not-false}
 use Rattle.std.specs.Int.{w64}
 use Rattle.flash.specs.Laws.{le_or_lt}
 use Rattle.rules.specs.declared.Area.{Area}
@@ -17,7 +16,7 @@ use Rattle.rules.specs.Laws.{and_left, and_right, nor_left, nor_right}
 use Rattle.entries.specs.declared.Cursor.{Cursor}
 use Rattle.entries.specs.declared.doubles.Seen.{Seen}
 use Rattle.entries.specs.Ahead.{ahead, behind, entry_of, Sound, Settled, ahead_end, ahead_on, fewer}
-use Rattle.entries.specs.Noting.{slot, is_set, has, marked, noted, is_noted, all_noted, any_handle, beside, blank_map, nothing}
+use Rattle.entries.specs.Noting.{slot, is_set, has, marked, noted, is_noted, all_noted, any_handle, beside, blank_map, nothing, unmarked, unnoted}
 use Rattle.entries.specs.Repeats.{twice_in, in_window, both, has_marked, marked_long, alone, eq_or_not, false_by, true_by, set_by, window_once, dead_none}
 
 -- ---- the walk over all windows
@@ -32,7 +31,7 @@ noted_live : (m : List ℕ) (s : Seen) (e : Entry) (es : List Entry)
     → all_noted any_handle m s (e ∷ es) ≡ all_noted any_handle (marked m (is_live e.handle) e.handle) (noted m s (is_live e.handle) e.handle) es
 noted_live m s e es = ap (λ (b : Bool). all_noted any_handle (marked m b e.handle) (noted m s b e.handle) es) (and-true (is_live e.handle))
 
-pub hearing_on : {a : Area} {f m n : List ℕ} {c d : Cursor} {s u : Seen} {k : ℕ} → Hearing a f c m s → Settled a f (behind a f c) d → (c.length ≡ 0 → ⊥) → k ≡ handle_of (get_or f c.place 0)
+hearing_on : {a : Area} {f m n : List ℕ} {c d : Cursor} {s u : Seen} {k : ℕ} → Hearing a f c m s → Settled a f (behind a f c) d → (c.length ≡ 0 → ⊥) → k ≡ handle_of (get_or f c.place 0)
     → n ≡ marked m (is_live k) k → u ≡ noted m s (is_live k) k → Hearing a f d n u
 unfolding entry_of
 hearing_on {a} {f} {m} {c = c} {s = s} x w z e p q =
@@ -40,6 +39,13 @@ hearing_on {a} {f} {m} {c = c} {s = s} x w z e p q =
       sound = w.sound;
       same = rw (p, q, e, w.same) (sym (noted_live m s (entry_of f c) (behind a f c)) ∙ ap (all_noted any_handle m s) (sym (ahead_on x.sound z)) ∙ x.same);
     }
+
+module _ {a : Area} {f m : List ℕ} {c d : Cursor} {s : Seen} {k : ℕ} (x : Hearing a f c m s) (w : Settled a f (behind a f c) d) (z : c.length ≡ 0 → ⊥) (e : k ≡ handle_of (get_or f c.place 0)) where
+  pub hearing_live : {n : List ℕ} {u : Seen} → (k ≡ 0 → ⊥) → n ≡ marked m true k → u ≡ noted m s true k → Hearing a f d n u
+  hearing_live y p q = hearing_on x w z e (rw (ne_eqb k 0 y) p) (rw (ne_eqb k 0 y) q)
+
+  pub hearing_dead : k ≡ 0 → Hearing a f d m s
+  hearing_dead y = let t : is_live k ≡ false = rw y in hearing_on x w z e (unmarked (is_live k) m k t) (unnoted (is_live k) m k t s)
 
 pub hearing_end : {a : Area} {f m : List ℕ} {c : Cursor} {s : Seen} → Hearing a f c m s → c.length ≡ 0 → s.windows ≡ (all_noted any_handle blank_map nothing (entries a f)).windows
 hearing_end {m = m} {s = s} x z = ap (λ (u : Seen). u.windows) (ap (all_noted any_handle m s) (sym (ahead_end x.sound z)) ∙ x.same)
@@ -133,17 +139,13 @@ module _ {t : ℕ → Bool} {w : ℕ} {a : Area} {f : List ℕ} {c : Cursor} {m 
       let g : is_noted (both t w) (entry_of f c) && has m (entry_of f c).handle ≡ true = rw (← e) (sym q ∙ y) in
       sym (rw g at here)
 
-  pub repeated_is : b ≡ true → eqb k 0 ≡ not (twice_in (both t w) (entries a f))
-  repeated_is y = rw (twice_here y) (live_is k (and_left (is_live k) (both t w k) (and_left (is_live k && both t w k) (has m k) (sym q ∙ y))))
-    where
-      live_is : (h : ℕ) → is_live h ≡ true → eqb h 0 ≡ false
-      live_is h p = not-true (eqb h 0) p
+  pub repeated_is : b ≡ true → true ≡ twice_in (both t w) (entries a f)
+  repeated_is y = sym (twice_here y)
 
-  pub repeated_in : b ≡ true → k / 1024 ≤ w
+  pub repeated_in : b ≡ true → k / 1024 ≡ w
   repeated_in y =
       let i = and_right (is_live k) (both t w k) (and_left (is_live k && both t w k) (has m k) (sym q ∙ y)) in
-      let j = eqb-true (k / 1024) w (and_right (t k) (in_window w k) i) in
-      omega arith
+      eqb-true (k / 1024) w (and_right (t k) (in_window w k) i)
 
   -- it was not
   pub repeating_on : {n : List ℕ} {d : Cursor} → b ≡ false → n ≡ marked m (is_live k && both t w k) k → Settled a f (behind a f c) d → Repeating t w a f d n
@@ -156,10 +158,10 @@ module _ {t : ℕ → Bool} {w : ℕ} {a : Area} {f : List ℕ} {c : Cursor} {m 
         same = rw (s.same, p, e) (sym (past t w m x.long (entry_of f c) (behind a f c) (is_noted (both t w) (entry_of f c)) refl g) ∙ here);
       }
 
-pub repeating_end : {t : ℕ → Bool} {w : ℕ} {a : Area} {f m : List ℕ} {c : Cursor} → Repeating t w a f c m → c.length ≡ 0 → eqb 0 0 ≡ not (twice_in (both t w) (entries a f))
+pub repeating_end : {t : ℕ → Bool} {w : ℕ} {a : Area} {f m : List ℕ} {c : Cursor} → Repeating t w a f c m → c.length ≡ 0 → false ≡ twice_in (both t w) (entries a f)
 repeating_end {t} {w} {m = m} x z = rw (sym (rw (ahead_end x.sound z) at x.same))
 
-pub ruleset sweeps = (fewer, hearing_start, hearing_on, hearing_end, repeating_start, repeated_is, repeated_in, repeating_on, repeating_end)
+pub ruleset sweeps = (fewer, hearing_start, hearing_live, hearing_dead, hearing_end, repeating_start, repeated_is, repeated_in, repeating_on, repeating_end)
 
 -- ---- the windows, one behind the other
 -- live handles that pass a narrower test
@@ -183,7 +185,7 @@ module _ (es : List Entry) where
   unmet : (t : ℕ → Bool) (w : ℕ) → is_set (all_noted any_handle blank_map nothing es).windows w ≡ false → twice_in (both t w) es ≡ false
   unmet t w z = narrow (both any_handle w) (both t w) (λ h l q. and_right (t h) (in_window w h) q) es (window_once any_handle w blank_map nothing es (length-replicate {A = ℕ} 16 0) z)
 
-  pub window_clear : {n b : ℕ} (t : ℕ → Bool) (w : ℕ) → n ≡ (all_noted any_handle blank_map nothing es).windows → b ≡ 2 ^ w → bit_and n b ≡ 0 → eqb 0 0 ≡ not (twice_in (both t w) es)
+  pub window_clear : {n b : ℕ} (t : ℕ → Bool) (w : ℕ) → n ≡ (all_noted any_handle blank_map nothing es).windows → b ≡ 2 ^ w → bit_and n b ≡ 0 → false ≡ twice_in (both t w) es
   window_clear {n} {b} t w e q z =
       let y : is_set (all_noted any_handle blank_map nothing es).windows w ≡ false = rw (← e, ← q, eq-eqb (bit_and n b) 0 z) in
       rw (unmet t w y)
@@ -221,21 +223,19 @@ pub record Windowed (t : ℕ → Bool) (es : List Entry) (i : ℕ) : Type 0 wher
 pub windowed_start : {t : ℕ → Bool} {es : List Entry} → Windowed t es 0
 windowed_start = record { none = λ w l. absurd (let z : ⊥ = omega arith in z) }
 
-module _ {t : ℕ → Bool} {es : List Entry} {i r : ℕ} (x : Windowed t es i) (e : eqb r 0 ≡ not (twice_in (both t i) es)) where
-  pub windowed_on : r ≡ 0 → Windowed t es (i + 1)
+module _ {t : ℕ → Bool} {es : List Entry} {i : ℕ} {b : Bool} (x : Windowed t es i) (e : b ≡ twice_in (both t i) es) where
+  pub windowed_on : b ≡ false → Windowed t es (i + 1)
   windowed_on z =
       record {
         none = λ w l.
             ⊎_elim
-            (λ (y : i ≤ w). let o : w ≡ i = omega arith in rw o (not-true (twice_in (both t i) es) (sym e ∙ eq-eqb r 0 z)))
+            (λ (y : i ≤ w). let o : w ≡ i = omega arith in rw o (sym e ∙ z))
             (λ (y : w < i). x.none w y)
             (le_or_lt i w);
       }
 
-  pub windowed_found : (r ≡ 0 → ⊥) → eqb r 0 ≡ not (twice_in t es)
-  windowed_found z =
-      let d : twice_in (both t i) es ≡ true = not-false (twice_in (both t i) es) (sym e ∙ ne_eqb r 0 z) in
-      rw (ne_eqb r 0 z, true_by (twice_in (both t i) es) (twice_in t es) (part_false t i es) d)
+  pub windowed_found : b ≡ true → b ≡ twice_in t es
+  windowed_found z = rw (z, true_by (twice_in (both t i) es) (twice_in t es) (part_false t i es) (sym e ∙ z))
 
 pub windowed_below : {t : ℕ → Bool} {es : List Entry} {i j : ℕ} → Windowed t es i → j ≤ i → Windowed t es j
 windowed_below x l = record { none = λ w h. x.none w (omega arith) }
@@ -244,7 +244,7 @@ windowed_below x l = record { none = λ w h. x.none w (omega arith) }
 pub windowed_aside : {es : List Entry} {i : ℕ} (k : ℕ) → Windowed (beside 0) es i → Windowed (beside k) es i
 windowed_aside {es} k x = record { none = λ w h. narrow (both (beside 0) w) (both (beside k) w) (λ u l q. rw (l, and_right (beside k u) (in_window w u) q)) es (x.none w h) }
 
-pub windowed_end : {t : ℕ → Bool} {es : List Entry} {i n : ℕ} → Windowed t es i → 64 ≤ i → n ≡ (all_noted any_handle blank_map nothing es).windows → Fits w64 n → eqb 0 0 ≡ not (twice_in t es)
+pub windowed_end : {t : ℕ → Bool} {es : List Entry} {i n : ℕ} → Windowed t es i → 64 ≤ i → n ≡ (all_noted any_handle blank_map nothing es).windows → Fits w64 n → false ≡ twice_in t es
 windowed_end {t} {es} {i} {n} x l e g = rw (no_window t es all)
   where
     high : (w : ℕ) → 64 ≤ w → is_set n w ≡ false
@@ -263,7 +263,7 @@ windowed_end {t} {es} {i} {n} x l e g = rw (no_window t es all)
 pub ruleset windows = (window_clear, windowed_start, windowed_on, windowed_found, windowed_below, windowed_end)
 
 -- ---- no handle left aside: entries are live under none that is 0
-live_twice : (es : List Entry) → twice_in (beside 0) es ≡ twice es
+pub live_twice : (es : List Entry) → twice_in (beside 0) es ≡ twice es
 live_twice [] = refl
 live_twice (e ∷ es) = rw (live_twice es) (ap (λ (b : Bool). b || twice es) (go (is_live e.handle) refl))
   where
@@ -271,11 +271,7 @@ live_twice (e ∷ es) = rw (live_twice es) (ap (λ (b : Bool). b || twice es) (g
     go true q = rw q
     go false q = rw (q, dead_none e.handle es q)
 
-pub twice_by : (r : ℕ) (es : List Entry) → eqb r 0 ≡ not (twice_in (beside 0) es) → not (eqb r 0) ≡ twice es
-twice_by r es e = rw (e, ← live_twice es) (back (twice_in (beside 0) es))
-  where
-    back : (b : Bool) → not (not b) ≡ b
-    back true = refl
-    back false = refl
+pub twice_by : {b : Bool} (es : List Entry) → b ≡ twice_in (beside 0) es → b ≡ twice es
+twice_by es e = e ∙ live_twice es
 
 pub ruleset confirms = (twice_by, windowed_start)

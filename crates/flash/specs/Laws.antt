@@ -1,10 +1,11 @@
 -- The laws of running a list of stores under power: what `Ran` allows is exactly the first k stores, in one outcome and no other, and
 -- how steps compose whose stores are read off the flash as the steps before left it. Assumes nothing.
-use Rattle.std.specs.Prelude.{◌≡◌, refl, List, [], ◌∷◌, ◌++◌, Bool, true, ◌||◌, ◌↔◌, ◌⊎◌, ℕ, suc, zero, ◌+◌, ◌-◌, ◌≤◌, ◌<◌, min, length, get_or, take, set, replicate, ltb}
+use Rattle.std.specs.Prelude.{◌≡◌, refl, List, [], ◌∷◌, ◌++◌, Bool, true, ◌||◌, ◌↔◌, ◌⊎◌, ℕ, suc, zero, ◌+◌, ◌-◌, ◌≤◌, ◌<◌, min, length, get_or, take, drop, set, replicate, ltb}
 use Rattle.std.proofs.Common.{ap, sym, ◌∙◌, ⊎_elim, inl, inr, zero-le, suc-le-suc, arith, le_refl, le_trans, add-one, length-append, length-set, take_all, lt-ltb, le-ltb, Fits}
 use Rattle.std.proofs.Math.Bool.{or-false, or-true}
 use Rattle.std.proofs.Math.Seq.{take-nil, length-sets, set_out}
-use Rattle.std.proofs.lemmas.List.Edits.{sets}
+use Rattle.std.proofs.lemmas.List.{append_assoc, drop-drop, length-replicate, take-append-drop}
+use Rattle.std.proofs.lemmas.List.Edits.{sets, sets-eq}
 use Rattle.std.specs.Int.Bits.{bit_and}
 use Rattle.std.proofs.lemmas.Nat.{and_le_l}
 use Rattle.std.specs.Int.{w32}
@@ -247,3 +248,42 @@ pub wiped_more : (f : List ℕ) (at n : ℕ) → 0 < n → wiped (set f at blank
 unfolding wiped
 wiped_more f at zero h = absurd (let z : ⊥ = omega arith in z)
 wiped_more f at (suc n) h = let e : suc n - 1 ≡ n = omega arith in rw (e, add-one)
+
+-- the blank words beyond the flash's end change nothing
+sets_within : (n : ℕ) (f : List ℕ) (at : ℕ) → sets f at (replicate n blank) ≡ sets f at (replicate (min n (length f - at)) blank)
+sets_within zero f at = let e : min 0 (length f - at) ≡ 0 = omega arith in rw e
+sets_within (suc n) f at = ⊎_elim outside (inside (sets_within n (set f at blank) (suc at))) (le_or_lt (length f) at)
+  where
+    after : List ℕ
+    after = set f at blank
+
+    outside : length f ≤ at → sets f at (replicate (suc n) blank) ≡ sets f at (replicate (min (suc n) (length f - at)) blank)
+    outside h = let e : min (suc n) (length f - at) ≡ 0 = omega arith in sets_out (replicate (suc n) blank) f at h ∙ rw e
+
+    inside : sets after (suc at) (replicate n blank) ≡ sets after (suc at) (replicate (min n (length after - suc at)) blank) → at < length f
+        → sets f at (replicate (suc n) blank) ≡ sets f at (replicate (min (suc n) (length f - at)) blank)
+    inside r h =
+        let l = length-set f at blank in
+        let e : min (suc n) (length f - at) ≡ suc (min n (length after - suc at)) = omega arith in
+        r ∙ rw e
+
+-- an erase, by the part of the flash that it reaches
+pub wiped_part : (f : List ℕ) (at n s e : ℕ) (ys : List ℕ) → s ≡ min at (length f) → e ≡ min (at + n) (length f) → ys ≡ replicate (e - s) blank
+    → take s f ++ (ys ++ drop (e - s) (drop s f)) ≡ wiped f at n
+unfolding wiped
+wiped_part f at n s e ys i j y = ⊎_elim outside inside (le_or_lt (length f) at)
+  where
+    outside : length f ≤ at → take s f ++ (ys ++ drop (e - s) (drop s f)) ≡ sets f at (replicate n blank)
+    outside h =
+        let z : e - s ≡ 0 = omega arith in
+        rw (y, z) (take-append-drop s f) ∙ sym (sets_out (replicate n blank) f at h)
+
+    inside : at < length f → take s f ++ (ys ++ drop (e - s) (drop s f)) ≡ sets f at (replicate n blank)
+    inside h =
+        let a : s ≡ at = omega arith in
+        let k : e - s ≡ min n (length f - at) = omega arith in
+        let m = min n (length f - at) in
+        let l : length (replicate m blank) ≡ m = length-replicate m blank in
+        let r : sets f at (replicate m blank) ≡ take at f ++ replicate m blank ++ drop (at + length (replicate m blank)) f = sets-eq (replicate m blank) f at (omega arith) in
+        let t = rw l at r ∙ append_assoc (take at f) (replicate m blank) (drop (at + m) f) in
+        rw (y, k, a) (ap (λ (u : List ℕ). take at f ++ (replicate m blank ++ u)) (drop-drop m at f) ∙ sym t) ∙ sym (sets_within n f at)

@@ -1,7 +1,7 @@
 //! Flash words under power: a word store, a page's erase, and a read.
 //!
 //! Every function here is proved, and none has a `requires`. `store` and `erase` alone change the
-//! manager's flash, and without power they change nothing; `fill` is the loop of `erase`.
+//! manager's flash, and without power they change nothing; `fill` makes an erase's words blank.
 #![tactic(auto)]
 
 ghost use Rattle.std.specs.Prelude.{◌≡◌, [], ◌∷◌, get_or};
@@ -67,16 +67,9 @@ pub fn erase(flash: &mut [u32], at: usize, count: usize, power: Power) -> Power
 fn fill(flash: &mut [u32], at: usize, count: usize)
     ensures { flash.new ≡ wiped flash.old at count }
 {
-    let mut i = at;
-    let mut left = count;
-    while 0 < left {
-        if flash.len() <= i {
-            return;
-        }
-        flash[i] = BLANK;
-        i += 1;
-        left -= 1;
-    }
+    let start = at.min(flash.len());
+    let end = at.saturating_add(count).min(flash.len());
+    flash[start..end].fill(BLANK);
 }
 
 // The word at the place at, 0 outside the flash.

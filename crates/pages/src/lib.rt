@@ -29,6 +29,7 @@ pub fn length_of(word: u32) -> usize
 }
 
 // The length of the entry that begins at a place of a page, 0 if none does.
+#[tactic(auto, using(crate::specs::Steps::steps))]
 pub fn length_at(page: &[u32], at: usize) -> usize
     ensures { (result ≡ length_at page.now at) × (result ≤ length page.now - at - 1) }
 {
@@ -46,6 +47,7 @@ pub fn length_at(page: &[u32], at: usize) -> usize
 }
 
 // The place where the walk of a page stops.
+#[tactic(auto, using(crate::specs::Steps::steps))]
 pub fn stop(page: &[u32]) -> usize
     ensures { (result ≡ stop page.now) × (result ≤ length page.now) }
 {
@@ -66,47 +68,39 @@ pub fn stop(page: &[u32]) -> usize
 pub fn blank_from(page: &[u32], at: usize) -> bool
     ensures { result ≡ all_blank (drop at page.now) }
 {
+    let Some(words) = page.get(at..) else {
+        return true;
+    };
     let mut common = BLANK;
-    let mut i = at;
-    while i < page.len() {
-        common = common & page[i];
-        i += 1;
+    for &word in words {
+        common &= word;
     }
     common == BLANK
 }
 
 // Whether a page has the metadata of the page with the index in an area of so many pages.
+#[tactic(auto, unfolding(rules::specs::Walk::meta_right, rules::specs::Words::meta1))]
 fn meta_right(page: &[u32], pages: u32, index: u32) -> bool
     ensures { result ≡ meta_right pages index page.now }
 {
-    let wanted = 0xFFFF_0000u64 + 256 * (index as u64) + (pages as u64);
-    let first = flash::word(page, 0);
-    let second = flash::word(page, 1);
-    (first == META0) & (second as u64 == wanted)
+    let wanted = 0xFFFF_0000 + 256 * u64::from(index) + u64::from(pages);
+    flash::word(page, 0) == META0 && u64::from(flash::word(page, 1)) == wanted
 }
 
 // What the page with the index in an area of so many pages is, by the place where its walk stops.
+#[tactic(auto, using(crate::specs::Kinds::kinds))]
 pub fn kind_at(page: &[u32], pages: u32, index: u32, at: usize) -> Kind
     requires { at ≡ stop page.now }
     ensures { result ≡ kind_of pages index page.now }
 {
-    if !meta_right(page, pages, index) {
+    if !meta_right(page, pages, index) || page.len() <= at || !blank_from(page, at + 1) {
         return Kind::Neither;
     }
-    if page.len() <= at {
-        return Kind::Neither;
+    match page[at] {
+        SEAL => Kind::Sealed,
+        BLANK => Kind::Torn,
+        _ => Kind::Neither,
     }
-    if !blank_from(page, at + 1) {
-        return Kind::Neither;
-    }
-    let end = page[at];
-    if end == SEAL {
-        return Kind::Sealed;
-    }
-    if end == BLANK {
-        return Kind::Torn;
-    }
-    Kind::Neither
 }
 
 // What the page with the index in an area of so many pages is.
@@ -117,6 +111,7 @@ pub fn kind_of(page: &[u32], pages: u32, index: u32) -> Kind
 }
 
 // What the recovery page of an area of so many pages is.
+#[tactic(auto, using(crate::specs::Kinds::recoveries), unfolding(rules::specs::Words::index_of))]
 pub fn recovery_of(page: &[u32], pages: u32) -> Recovery
     ensures { result ≡ recovery_of pages page.now }
 {
@@ -131,10 +126,10 @@ pub fn recovery_of(page: &[u32], pages: u32) -> Recovery
     if pages <= index {
         return Recovery::Damage;
     }
-    match kind_of(page, pages, index) {
-        Kind::Sealed => Recovery::Committed(index as usize),
-        Kind::Torn => Recovery::Damage,
-        Kind::Neither => Recovery::Damage,
+    if kind_of(page, pages, index) == Kind::Sealed {
+        Recovery::Committed(index as usize)
+    } else {
+        Recovery::Damage
     }
 }
 

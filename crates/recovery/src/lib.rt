@@ -100,10 +100,8 @@ fn mend_pages(flash: &mut [u32], area: Area, power: Power) -> Power
     ensures { Ran (each (mend area) area.pages 0 flash.old) power flash.old result flash.new }
 {
     let mut p = power;
-    let mut index: usize = 0;
-    while index < area.pages {
+    for index in 0..area.pages {
         p = mend(flash, area, index, p);
-        index += 1;
     }
     p
 }

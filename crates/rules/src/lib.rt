@@ -17,14 +17,14 @@ pub const SPECIAL: u32 = 0x7F00;
 
 // An area: so many pages of so many words each, and behind them the recovery page. Any numbers may
 // stand here; GEOMETRY judges them.
-#[derive(Clone, Copy, PartialEq, Eq)]
+#[derive(Clone, Copy, PartialEq, Eq, Debug)]
 pub struct Area {
     pub pages: usize,
     pub words: usize,
 }
 
 // A page of 64, 256 or 1,024 words.
-#[derive(Clone, Copy, PartialEq, Eq)]
+#[derive(Clone, Copy, PartialEq, Eq, Debug)]
 pub enum PageSize {
     Small,
     Medium,
@@ -83,7 +83,7 @@ impl PageSize {
 }
 
 // What a page is, by its metadata and the end of its walk.
-#[derive(Clone, Copy, PartialEq, Eq)]
+#[derive(Clone, Copy, PartialEq, Eq, Debug)]
 pub enum Kind {
     Sealed,
     Torn,
@@ -91,7 +91,7 @@ pub enum Kind {
 }
 
 // What the recovery page is; a committed one names the index of a page.
-#[derive(Clone, Copy, PartialEq, Eq)]
+#[derive(Clone, Copy, PartialEq, Eq, Debug)]
 pub enum Recovery {
     Free,
     Unfinished,
@@ -100,7 +100,7 @@ pub enum Recovery {
 }
 
 // Why a request was refused, by the names of document 01's table.
-#[derive(Clone, Copy, PartialEq, Eq)]
+#[derive(Clone, Copy, PartialEq, Eq, Debug)]
 pub enum Refusal {
     Geometry,
     Damaged,
@@ -131,7 +131,7 @@ impl Refusal {
 }
 
 // The stores that a request made: all of its list, or those that the power was given for.
-#[derive(Clone, Copy, PartialEq, Eq)]
+#[derive(Clone, Copy, PartialEq, Eq, Debug)]
 pub enum Made {
     Done(u32),
     Cut(u32),
@@ -139,7 +139,7 @@ pub enum Made {
 
 // An entry that was found: the place of its header in the run, one word before its data, and the
 // number of its data words.
-#[derive(Clone, Copy, PartialEq, Eq)]
+#[derive(Clone, Copy, PartialEq, Eq, Debug)]
 pub struct Found {
     pub place: usize,
     pub words: usize,

@@ -58,11 +58,8 @@ pub fn put_words(flash: &mut [u32], at: usize, words: &[u32], power: Power) -> P
     ensures { Ran (puts at words.now) power flash.old result flash.new }
 {
     let mut p = power;
-    let mut i: usize = 0;
-    while i < words.len() {
-        let word = words[i];
+    for (i, &word) in words.iter().enumerate() {
         p = flash::store(flash, at + i, word, p);
-        i += 1;
     }
     p
 }
@@ -74,11 +71,9 @@ pub fn copy_words(flash: &mut [u32], from: usize, to: usize, count: usize, power
     ensures { Ran (puts to (take count (drop from flash.old))) power flash.old result flash.new }
 {
     let mut p = power;
-    let mut i: usize = 0;
-    while i < count {
+    for i in 0..count {
         let word = flash[from + i];
         p = flash::store(flash, to + i, word, p);
-        i += 1;
     }
     p
 }
@@ -118,10 +113,8 @@ fn format_pages(flash: &mut [u32], area: Area, power: Power) -> Power
     ensures { Ran (each (format_page area) area.pages 0 flash.old) power flash.old result flash.new }
 {
     let mut p = power;
-    let mut index: usize = 0;
-    while index < area.pages {
+    for index in 0..area.pages {
         p = format_page(flash, area, index, p);
-        index += 1;
     }
     p
 }

@@ -164,7 +164,7 @@ module _ {p : List ℕ} {b h : ℕ} {m : List ℕ} {w : Walk} {n k : ℕ} (e : k
   pub walked_over : {o : Option Found} → k ≡ 0 → o ≡ w.found → WalkedOn p b h m w n (record { stop = w.stop + n; live = w.live; found = o; seen = w.seen }) m
   unfolding or_if
   walked_over z q =
-      let d : not (not (eqb k 0)) ≡ true = rw (eq-eqb k 0 z) in
+      let d : not (eqb k 0) ≡ false = rw (eq-eqb k 0 z) in
       record {
         stop = refl;
         own = k;

@@ -72,7 +72,7 @@ pub fn walk_on(
             seen,
         };
     }
-    let seen = entries::doubles::note(map, seen, true, own);
+    let seen = entries::doubles::note(map, seen, own);
     let found = kept(found, own == handle, base, at, words);
     Walk {
         stop,

@@ -1,5 +1,5 @@
 -- `mend_pages` goes from page to page. Assumes nothing.
-use Rattle.std.proofs.Common.{length, ◌-◌, ◌≡◌}
+use Rattle.std.proofs.Common.{length, ◌≡◌}
 use Rattle.flash.specs.Laws.{Turn}
 use Rattle.rules.specs.Lists.{mend}
 use Rattle.rules.specs.Places.{Right}
@@ -7,6 +7,3 @@ use Rattle.recovery.proofs.mend_pages.Given as goal
 
 abbrev pub invariant-loop-index : goal.invariant-loop-index
 invariant-loop-index l = (length l.flash ≡ length l.initial.flash) × Right l.area l.flash × Turn (mend l.area) l.area.pages l.initial.p l.initial.flash l.index l.p l.flash
-
-abbrev pub decreases-loop-index : goal.decreases-loop-index
-decreases-loop-index l = l.area.pages - l.index

@@ -1,11 +1,8 @@
 -- `copy_words` stores word by word. Assumes nothing.
-use Rattle.std.proofs.Common.{length, ◌-◌, ◌≡◌}
+use Rattle.std.proofs.Common.{length, ◌≡◌}
 use Rattle.flash.specs.Laws.{Turn}
 use Rattle.stores.specs.Making.{copy_turn}
 use Rattle.stores.proofs.copy_words.Given as goal
 
 abbrev pub invariant-loop-i : goal.invariant-loop-i
 invariant-loop-i l = (length l.flash ≡ length l.initial.flash) × Turn (copy_turn l.from l.to) l.count l.initial.p l.initial.flash l.i l.p l.flash
-
-abbrev pub decreases-loop-i : goal.decreases-loop-i
-decreases-loop-i l = l.count - l.i

@@ -1,5 +1,4 @@
 -- `doubled` tries one window behind the other. Assumes nothing.
-use Rattle.std.proofs.Common.{◌-◌}
 use Rattle.rules.specs.Areas.{entries}
 use Rattle.entries.specs.Noting.{beside}
 use Rattle.entries.specs.Sweeping.{Windowed}
@@ -7,6 +6,3 @@ use Rattle.entries.proofs.doubles.doubled.Given as goal
 
 abbrev pub invariant-loop-window : goal.invariant-loop-window
 invariant-loop-window l = Windowed (beside l.aside) (entries l.area l.flash) l.window
-
-abbrev pub decreases-loop-window : goal.decreases-loop-window
-decreases-loop-window l = 64 - l.window

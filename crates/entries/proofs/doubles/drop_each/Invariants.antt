@@ -5,7 +5,7 @@ use Rattle.entries.specs.Doubles.{Dropping}
 use Rattle.entries.proofs.doubles.drop_each.Given as goal
 
 abbrev pub invariant-loop-cursor : goal.invariant-loop-cursor
-invariant-loop-cursor l = Dropping l.alone l.only l.area l.initial.p l.initial.flash l.cursor l.p l.flash
+invariant-loop-cursor l = Dropping l.only l.area l.initial.p l.initial.flash l.cursor l.p l.flash
 
 abbrev pub decreases-loop-cursor : goal.decreases-loop-cursor
 decreases-loop-cursor l = length (ahead l.area l.flash l.cursor)

@@ -1,10 +1,6 @@
--- `drop_in` looks for a handle that is live twice, and for another. Assumes nothing.
-use Rattle.std.proofs.Common.{rules}
-use Rattle.entries.specs.Doubles.{dropped}
+-- `drop_in` finds no handle that is live twice, and stores nothing. Assumes nothing.
+use Rattle.entries.specs.Doubles.{none_dropped}
 use Rattle.entries.proofs.doubles.drop_in.Goals as goal
 
-pub returns-then-one-eq0 : goal.returns-then-one-eq0
-returns-then-one-eq0 c = search (rules, dropped)
-
-pub doubled-other-requires : goal.doubled-other-requires
-doubled-other-requires c = search (rules, dropped)
+pub returns-in_default : goal.returns-in_default
+returns-in_default c = none_dropped c.args.area c.args.flash.now c.in_default.ensures.twice

@@ -1,19 +1,9 @@
 -- `repeated` marks each live handle of a window. Assumes nothing.
-use Rattle.std.proofs.Common.{rules}
-use Rattle.entries.specs.Sweeping.{sweeps}
+use Rattle.entries.specs.Sweeping.{repeated_is, repeating_on}
 use Rattle.entries.proofs.doubles.repeated.Goals as goal
 
-pub loop-cursor-init : goal.loop-cursor-init
-loop-cursor-init c = search (rules, sweeps)
-
-pub returns-then-mark : goal.returns-then-mark
-returns-then-mark c = search (rules, sweeps)
-
-pub loop-cursor-smaller : goal.loop-cursor-smaller
-loop-cursor-smaller c = search (rules, sweeps)
+pub returns-then-mark_in-clause-twice : goal.returns-then-mark_in-clause-twice
+returns-then-mark_in-clause-twice c = repeated_is c.loop-cursor.invariant c.loop-cursor-test.true c.handle_of-handle.ensures.0 c.mark_in.ensures.before c.if-mark_in.true
 
 pub loop-cursor-preserved : goal.loop-cursor-preserved
-loop-cursor-preserved c = search (rules, sweeps)
-
-pub returns : goal.returns
-returns c = search (rules, sweeps)
+loop-cursor-preserved c = repeating_on c.loop-cursor.invariant c.loop-cursor-test.true c.handle_of-handle.ensures.0 c.mark_in.ensures.before c.if-mark_in.false c.mark_in.ensures.map c.after-cursor.ensures.0
