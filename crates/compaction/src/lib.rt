@@ -5,7 +5,7 @@
 //! in which R is blank and takes the words as they are.
 #![tactic(auto)]
 
-ghost use Rattle.std.specs.Prelude.{true, [], ◌∷◌, ◌++◌, ◌≡◌, ◌+◌, ◌-◌, ◌≤◌, ◌<◌, length, get_or, take, drop};
+ghost use Rattle.std.specs.Prelude.{true, [], ◌∷◌, ◌++◌, ◌≡◌, ◌≢◌, ◌+◌, ◌-◌, ◌≤◌, ◌<◌, length, get_or, take, drop, IfSome, IfNone};
 ghost use Rattle.flash.specs.Stores.{puts, Ran};
 ghost use Rattle.rules.specs.Words.{handle_of, seal};
 ghost use Rattle.rules.specs.Areas.{R, base, page, ready};
@@ -17,10 +17,11 @@ ghost use Rattle.compaction.specs.Copying.{copied_back};
 use flash::Power;
 use rules::{Area, SEAL};
 
-// The length of the entry that begins at a place of the run, within its page's end, 0 if none does.
-fn length_within(flash: &[u32], end: usize, at: usize) -> usize
+// The length of the entry that begins at a place of the run, within its page's end, if one does.
+fn length_within(flash: &[u32], end: usize, at: usize) -> Option<usize>
     requires { end ≤ length flash.now }
-    ensures { (result ≡ length_at (take end flash.now) at) × (result ≤ length flash.now - at - 1) }
+    ensures some { IfSome result (λ n. (n ≡ length_at (take end flash.now) at) × (n ≢ 0) × (n ≤ length flash.now - at - 1)) }
+    ensures none { IfNone result (0 ≡ length_at (take end flash.now) at) }
 {
     pages::length_at(entries::up_to(flash, end), at)
 }
@@ -42,16 +43,13 @@ fn copy_live(flash: &mut [u32], area: Area, index: usize, power: Power) -> Power
     let mut at = start + 2;
     let mut to = stores::base(area, area.pages) + 2;
     let mut p = power;
-    loop {
-        let length = length_within(flash, start + area.words, at);
-        if length == 0 {
-            return p;
-        }
+    while let Some(length) = length_within(flash, start + area.words, at) {
         let count = kept(flash, at, length);
         p = stores::copy_words(flash, at, to, count, p);
         to += count;
         at += length;
     }
+    p
 }
 
 // The number of words of a page's live entries.

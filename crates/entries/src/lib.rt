@@ -50,18 +50,21 @@ fn settle(flash: &[u32], area: Area, place: usize, end: usize, left: usize) -> C
     let mut end = end;
     let mut left = left;
     loop {
-        let length = pages::length_at(up_to(flash, end), place);
-        let cursor = Cursor {
-            place,
-            length,
-            end,
-            left,
-        };
-        if length != 0 {
-            return cursor;
+        if let Some(length) = pages::length_at(up_to(flash, end), place) {
+            return Cursor {
+                place,
+                length,
+                end,
+                left,
+            };
         }
         if left == 0 {
-            return cursor;
+            return Cursor {
+                place,
+                length: 0,
+                end,
+                left,
+            };
         }
         place = end + 2;
         end += area.words;

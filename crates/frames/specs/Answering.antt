@@ -1,8 +1,10 @@
 -- A line's answer, from what the line does and what is said of it; that the promise allows one outcome; where a line ends; and that the
 -- pieces of an answer are the answer: laws.
 -- Assumes nothing.
-use Rattle.std.specs.Prelude.{◌≡◌, refl, List, [], ◌∷◌, ◌++◌, Bool, true, false, cond, ℕ, suc, zero, ◌+◌, ◌≤◌, ◌<◌, length, get_or, take, drop, eqb}
-use Rattle.std.proofs.Common.{sym, ap, ap₂, ◌∙◌, append_assoc, append-nil, arith, add-one, length-take, length-drop, take-append-drop, drop_of_length-le, drop-cons, drop-drop, take_at, ltb-false, eq-eqb, ne_eqb}
+use Rattle.std.specs.Prelude.{◌≡◌, refl, Some, None, unwrap_or, List, [], ◌∷◌, ◌++◌, Bool, true, false, cond, ℕ, suc, zero, ◌+◌, ◌≤◌, ◌<◌, length, get_or, take, drop, ltb, eqb}
+use Rattle.std.proofs.Common.{sym, ap, ap₂, ◌∙◌, append_assoc, append-nil, zero-le, arith, add-one, length-take, length-drop, take-append-drop, drop_of_length-le, drop-cons, drop-drop, take_at, ltb-false, eq-eqb, ne_eqb}
+use Rattle.std.proofs.lemmas.List.Recursion.{is_position_or_len}
+use Rattle.std.specs.List.{position_or_len}
 use Rattle.flash.specs.Laws.{settled}
 use Rattle.frames.specs.declared.State.{State}
 use Rattle.frames.specs.declared.Reply.{Reply}
@@ -31,34 +33,39 @@ response_settles {x = x} {y} a b =
       w.1,
     )
 
--- ---- the end of a line: no newline stands before a place
-pub record Ending (t : List ℕ) (i : ℕ) : Type 0 where
-  pub inside : i ≤ length t
-  pub same : i + line_length (drop i t) ≡ line_length t
+-- ---- the end of a line
+abbrev pub is_newline : ℕ → Bool
+is_newline b = eqb b newline
 
-pub ending_start : {t : List ℕ} → Ending t 0
-ending_start = record { inside = omega arith; same = omega arith }
+-- the place of the first newline, or the end
+line_ends : (t : List ℕ) → line_length t ≡ position_or_len is_newline t
+line_ends t = is_position_or_len line_length is_newline refl (λ b u. go (is_newline b) u) t
+  where
+    go : (c : Bool) (u : List ℕ) → cond c 0 (suc (line_length u)) ≡ cond c 0 (1 + line_length u)
+    go true u = refl
+    go false u = omega arith
 
-module _ {t : List ℕ} {i : ℕ} (e : Ending t i) where
-  pub ending_inside : i ≤ length t
-  ending_inside = e.inside
+line_inside : (t : List ℕ) → line_length t ≤ length t
+line_inside [] = zero-le
+line_inside (b ∷ t) = go (is_newline b) (line_inside t)
+  where
+    go : (c : Bool) → line_length t ≤ length t → cond c 0 (suc (line_length t)) ≤ suc (length t)
+    go true h = zero-le
+    go false h = omega arith
 
-  pub ending_last : length t ≤ i → i ≡ line_length t
-  ending_last h = omega (arith, rw (drop_of_length-le t h) at e.same)
+-- as a search for it finds it
+pub found_end : (t : List ℕ) → unwrap_or (cond (ltb (position_or_len is_newline t) (length t)) (Some (position_or_len is_newline t)) None) (length t) ≡ line_length t
+found_end t = go (ltb n (length t)) refl
+  where
+    n : ℕ
+    n = position_or_len is_newline t
 
-  module _ (h : i < length t) where
-    ending_by : i + cond (eqb (get_or t i 0) newline) 0 (suc (line_length (drop (suc i) t))) ≡ line_length t
-    ending_by = rw (drop-cons t i 0 h) at e.same
+    go : (c : Bool) → ltb n (length t) ≡ c → unwrap_or (cond c (Some n) None) (length t) ≡ line_length t
+    go true q = sym (line_ends t)
+    go false q = omega (arith, ltb-false n (length t) q, line_ends t, line_inside t)
 
-    pub ending_here : get_or t i 0 ≡ newline → i ≡ line_length t
-    ending_here q = omega (arith, rw (eq-eqb (get_or t i 0) newline q) at ending_by)
-
-    pub ending_on : (get_or t i 0 ≡ newline → ⊥) → Ending t (i + 1)
-    ending_on q =
-        let n : i + suc (line_length (drop (suc i) t)) ≡ line_length t = rw (ne_eqb (get_or t i 0) newline q) at ending_by in
-        record { inside = omega arith; same = rw (add-one i) (omega arith) }
-
-pub ruleset endings = (ending_start, ending_inside, ending_last, ending_here, ending_on)
+pub end_inside : {n : ℕ} (t : List ℕ) → n ≡ line_length t → n ≤ length t
+end_inside t e = omega (arith, line_inside t)
 
 -- a line so far, and what stands before the first newline, is the next line
 cut_at : (l t : List ℕ) → line_length t < length t → lines_from l t ≡ (l ++ take (line_length t) t) ∷ lines_from [] (drop (suc (line_length t)) t)

@@ -1,5 +1,5 @@
 -- The console: document 01, "The console". A line and an answer are lists of bytes. Definitions alone. Assumes nothing.
-use Rattle.std.specs.Prelude.{◌≡◌, List, [], ◌∷◌, ◌++◌, Bool, true, cond, ◌&&◌, ◌||◌, ℕ, suc, zero, ◌+◌, ◌-◌, ◌*◌, ◌/◌, ◌%◌, length, get_or, take, drop, leb, ltb, eqb, Ok, Err}
+use Rattle.std.specs.Prelude.{◌≡◌, List, [], ◌∷◌, ◌++◌, Bool, true, cond, ◌&&◌, ◌||◌, ℕ, suc, zero, ◌+◌, ◌-◌, ◌*◌, ◌/◌, ◌%◌, length, get_or, take, drop, leb, ltb, eqb, Ok, Err, Option, Some, None}
 use Rattle.rules.specs.declared.Area.{Area}
 use Rattle.rules.specs.declared.PageSize.{PageSize}
 use Rattle.rules.specs.declared.PageSize.TheVariants.{Small, Medium, Large}
@@ -50,42 +50,42 @@ words_from l (suc n) i = eight l i ∷ words_from l n (i + 8)
 abbrev pub is_write : ℕ → Bool
 is_write n = leb 6 n && (leb n 326 && eqb ((n - 6) % 8) 0)
 
--- by its kind and the number of its digits
-unfoldable pub shaped : ℕ → List ℕ → Frame
+-- by its kind and the number of its digits; a line of another kind, or of other digits than its kind has, is no frame
+unfoldable pub shaped : ℕ → List ℕ → Option Frame
 shaped kind l =
     let n = length l in
-    cond (eqb kind 0x01) (cond (is_write n) (Frame.Write (four l 2) ((n - 6) / 8)) Frame.Bad)
-    (cond (eqb kind 0x02) (cond (eqb n 6) (Frame.Read (four l 2)) Frame.Bad)
-    (cond (eqb kind 0x03) (cond (eqb n 6) (Frame.Delete (four l 2)) Frame.Bad)
-    (cond (eqb kind 0x04) (cond (eqb n 10) (Frame.List (four l 2) (four l 6)) Frame.Bad)
-    (cond (eqb kind 0x05) (cond (eqb n 2) Frame.Recover Frame.Bad)
-    (cond (eqb kind 0x06) (cond (eqb n 6) (Frame.Power (four l 2)) Frame.Bad)
-    (cond (eqb kind 0x07) (cond (eqb n 6) (Frame.Format (two l 2) (two l 4)) Frame.Bad) Frame.Bad))))))
+    cond (eqb kind 0x01) (cond (is_write n) (Some (Frame.Write (four l 2) ((n - 6) / 8))) None)
+    (cond (eqb kind 0x02) (cond (eqb n 6) (Some (Frame.Read (four l 2))) None)
+    (cond (eqb kind 0x03) (cond (eqb n 6) (Some (Frame.Delete (four l 2))) None)
+    (cond (eqb kind 0x04) (cond (eqb n 10) (Some (Frame.List (four l 2) (four l 6))) None)
+    (cond (eqb kind 0x05) (cond (eqb n 2) (Some Frame.Recover) None)
+    (cond (eqb kind 0x06) (cond (eqb n 6) (Some (Frame.Power (four l 2))) None)
+    (cond (eqb kind 0x07) (cond (eqb n 6) (Some (Frame.Format (two l 2) (two l 4))) None) None))))))
 
-unfoldable pub frame_of : List ℕ → Frame
-frame_of l = cond (leb 2 (length l) && all_digits l) (shaped (two l 0) l) Frame.Bad
+unfoldable pub frame_of : List ℕ → Option Frame
+frame_of l = cond (leb 2 (length l) && all_digits l) (shaped (two l 0) l) None
 
 -- the words of a write of n words
 unfoldable pub line_words : List ℕ → ℕ → List ℕ
 line_words l n = words_from l n 6
 
--- of a frame: the words that it has, if it is a write
-abbrev pub count_of : Frame → ℕ
-count_of (Frame.Write h n) = n
-count_of (Frame.Read h) = 0
-count_of (Frame.Delete h) = 0
-count_of (Frame.List mask pattern) = 0
-count_of Frame.Recover = 0
-count_of (Frame.Power k) = 0
-count_of (Frame.Format n size) = 0
-count_of Frame.Bad = 0
+-- of a line's frame: the words that it has, if it is a write
+abbrev pub count_of : Option Frame → ℕ
+count_of (Some (Frame.Write h n)) = n
+count_of (Some (Frame.Read h)) = 0
+count_of (Some (Frame.Delete h)) = 0
+count_of (Some (Frame.List mask pattern)) = 0
+count_of (Some Frame.Recover) = 0
+count_of (Some (Frame.Power k)) = 0
+count_of (Some (Frame.Format n size)) = 0
+count_of None = 0
 
 -- a buffer v with n words of a line at its start, if it has room for them
 abbrev pub with_words : List ℕ → ℕ → List ℕ → List ℕ
 with_words l n v = cond (leb n (length v)) (line_words l n ++ drop n v) v
 
 -- of a line l and a buffer v for the words of a write: the frame r, and the buffer w then
-pub record Framed (l v : List ℕ) (r : Frame) (w : List ℕ) : Type 0 where
+pub record Framed (l v : List ℕ) (r : Option Frame) (w : List ℕ) : Type 0 where
   pub frame : r ≡ frame_of l
   pub words : w ≡ with_words l (count_of (frame_of l)) v
 
@@ -221,15 +221,15 @@ abbrev pub format_frame : State → List ℕ → ℕ → ℕ → Effect
 format_frame s f n size = cond (is_format n size) (format_area s f (record { pages = n; size = size_named size })) (told s f (plain (refusal_number Geometry) 0))
 
 -- of each kind
-abbrev pub carried_by : State → List ℕ → List ℕ → Frame → Effect
-carried_by s f l (Frame.Write h n) = requested s f (write h (line_words l n))
-carried_by s f l (Frame.Read h) = read_frame s f h
-carried_by s f l (Frame.Delete h) = requested s f (delete h)
-carried_by s f l (Frame.List mask pattern) = list_frame s f mask pattern
-carried_by s f l Frame.Recover = requested s f recover
-carried_by s f l (Frame.Power k) = told (record { shape = s.shape; power = k }) f (plain 0x00 0)
-carried_by s f l (Frame.Format n size) = format_frame s f n size
-carried_by s f l Frame.Bad = told s f (plain bad_frame 0)
+abbrev pub carried_by : State → List ℕ → List ℕ → Option Frame → Effect
+carried_by s f l (Some (Frame.Write h n)) = requested s f (write h (line_words l n))
+carried_by s f l (Some (Frame.Read h)) = read_frame s f h
+carried_by s f l (Some (Frame.Delete h)) = requested s f (delete h)
+carried_by s f l (Some (Frame.List mask pattern)) = list_frame s f mask pattern
+carried_by s f l (Some Frame.Recover) = requested s f recover
+carried_by s f l (Some (Frame.Power k)) = told (record { shape = s.shape; power = k }) f (plain 0x00 0)
+carried_by s f l (Some (Frame.Format n size)) = format_frame s f n size
+carried_by s f l None = told s f (plain bad_frame 0)
 
 -- a line, in a state and with a flash
 unfoldable pub carried : State → List ℕ → List ℕ → Effect

@@ -1,4 +1,6 @@
 pub mod Frames
+pub mod Numbers
+pub mod Kinds
 pub mod Lines
 pub mod Shapes
 pub mod Requests

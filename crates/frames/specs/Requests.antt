@@ -6,12 +6,20 @@ use mathlib.Core.List.{List, ◌++◌}
 use Rattle.std.proofs.Math.ListN.{drop}
 use Rattle.rules.specs.declared.Area.{Area}
 use Rattle.rules.specs.Refusals.{outcome, Answer, Reading, Yielded}
-use Rattle.rules.specs.Lists.{Request, plan_of}
+use Rattle.rules.specs.Lists.{Request, plan_of, format, recover, write, delete}
 use Rattle.rules.specs.Search.{read_of, search_of}
 use Rattle.manager.specs.Storing.{Answers}
 use Rattle.frames.specs.declared.Shape.{Shape}
+use Rattle.frames.specs.declared.requests.Request.{Request as Asked}
 use Rattle.frames.specs.Frames.{area_of, run_words, run_of, with_run}
 use Rattle.frames.specs.Shapes.{RunEnd}
+
+-- ---- the request of the rules that one of the console means
+abbrev pub meant : Asked → Request
+meant Asked.Format = format
+meant Asked.Recover = recover
+meant (Asked.Write h d) = write h d.now
+meant (Asked.Delete h) = delete h
 
 -- ---- the promise
 -- of a request r with power for k stores on the area of a shape: what is answered, x, and the flash that is left, g, are the outcome of its plan on the run
@@ -24,16 +32,11 @@ module _ {a : Shape} {f : List ℕ} {end : ℕ} (e : RunEnd a f end) where
   pub run_inside : end ≤ length f
   run_inside = e.inside
 
-  pub run_made : {b : Area} {r : Request} {k : ℕ} {x : Answer} {g : List ℕ} → b ≡ area_of a → Answers b r k (take end f) x g → Makes a r k f x (g ++ drop end f)
+  pub run_made : {b : Area} {r : Request} {k : ℕ} {x : Answer} {g : List ℕ} (q : Asked) → Answers b r k (take end f) x g → b ≡ area_of a → meant q ≡ r → Makes a (meant q) k f x (g ++ drop end f)
   unfolding with_run
-  run_made {b} {r} {k} {x} {g} q m =
-      let n : Answers (area_of a) r k (run_of a f) x g = rw (q, e.run) at m in
-      record { answer = n.answer; flash = ap (λ (u : List ℕ). g ++ u) e.rest ∙ ap (λ (u : List ℕ). u ++ drop (run_words a) f) n.flash }
+  run_made {b} {r} {k} {x} {g} q m d z =
+      let n : Answers (area_of a) r k (run_of a f) x g = rw (d, e.run) at m in
+      rw z (record { answer = n.answer; flash = ap (λ (u : List ℕ). g ++ u) e.rest ∙ ap (λ (u : List ℕ). u ++ drop (run_words a) f) n.flash })
 
-  pub run_read : {b : Area} {r : Reading} (h : ℕ) → b ≡ area_of a → r ≡ read_of b h (take end f) → r ≡ read_of (area_of a) h (run_of a f)
-  run_read h q d = rw (q, e.run) at d
 
-  pub run_searched : {b : Area} {r : Yielded} (mask pattern place : ℕ) → b ≡ area_of a → r ≡ search_of b mask pattern place (take end f) → r ≡ search_of (area_of a) mask pattern place (run_of a f)
-  run_searched mask pattern place q d = rw (q, e.run) at d
-
-pub ruleset requests = (length-take-le, run_inside, run_made, run_read, run_searched)
+pub ruleset requests = (length-take-le, run_inside, run_made)

@@ -22,8 +22,7 @@ use Rattle.frames.specs.declared.Tail.{Tail}
 use Rattle.frames.specs.declared.Reply.{Reply}
 use Rattle.frames.specs.declared.Said.{Said}
 use Rattle.frames.specs.declared.saying.Pen.{Pen}
-use Rattle.frames.specs.Frames.{digit, two_digits, four_digits, eight_digits, eights, area_of, fours, handles, list_handles, tail_bytes, newline, bytes, piece_of, Says}
-use Rattle.frames.specs.Shapes.{RunEnd}
+use Rattle.frames.specs.Frames.{digit, two_digits, four_digits, eight_digits, eights, area_of, run_of, fours, handles, list_handles, tail_bytes, newline, bytes, piece_of, Says}
 
 -- ---- a pen on its buffer
 pub record Sheet : Type 0 where
@@ -231,11 +230,10 @@ pub ruleset parts = (part_none, part_cut)
 
 -- ---- the tail of an answer
 -- the handles of a shape's area, by what a function has found of its run
-module _ {a : Shape} {f run : List ℕ} {end : ℕ} {area : Area} {b : Bool} (mask pattern : ℕ) (e : RunEnd a f end) (cut : run ≡ take end f) (is : area ≡ area_of a)
-    (q : b ≡ wrong_geometry area run) where
+module _ {run : List ℕ} {area : Area} {b : Bool} (a : Shape) (f : List ℕ) (mask pattern : ℕ) (q : b ≡ wrong_geometry area run) (is : area ≡ area_of a) (cut : run ≡ run_of a f) where
   by_run : list_handles a mask pattern f ≡ cond b [] (handles mask pattern (entries area run))
   unfolding list_handles
-  by_run = rw (q, is, cut, e.run)
+  by_run = rw (q, is, cut)
 
   pub none_listed : {p : Pen} {o : List ℕ} → b ≡ true → Wrote (fours (list_handles a mask pattern f)) p o p o
   none_listed t = rw (by_run, t) wrote_none

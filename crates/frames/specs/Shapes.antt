@@ -1,11 +1,12 @@
 -- The area of a shape, and where its run ends in a flash that may be too short for it: definition and laws. Assumes nothing.
 use Rattle.std.specs.Prelude.{◌≡◌, List, ℕ, ◌+◌, ◌*◌, ◌≤◌, ◌<◌, min}
 use Rattle.std.proofs.Math.Path.{sym, ap}
-use Rattle.std.proofs.Common.{◌∙◌, mul-le-mul_right, drop_of_length-le, take_all, Fits}
+use Rattle.std.proofs.Common.{◌∙◌, ⊎_elim, mul-le-mul_right, drop_of_length-le, take_all, Fits}
 use native.Mathlib.Omega.{arith}
 use Rattle.std.proofs.Math.ListN.{length, take, drop}
 use Rattle.std.proofs.Math.Seq.{take-length, drop-length}
 use Rattle.std.specs.Int.{w8, w64}
+use Rattle.flash.specs.Laws.{le_or_lt}
 use Rattle.rules.specs.declared.PageSize.{PageSize}
 use Rattle.rules.specs.Words.{words_of}
 use Rattle.frames.specs.declared.Shape.{Shape}
@@ -21,21 +22,31 @@ pub record RunEnd (a : Shape) (f : List ℕ) (end : ℕ) : Type 0 where
   pub run : take end f ≡ run_of a f
   pub rest : drop end f ≡ drop (run_words a) f
 
-module _ {n : ℕ} (a : Shape) (f : List ℕ) (e : n ≡ (a.pages + 1) * words_of a.size) where
-  pub end_short : length f < n → RunEnd a f (length f)
+module _ {n k : ℕ} (a : Shape) (f : List ℕ) where
+  end_short : n ≡ (a.pages + 1) * words_of a.size → length f ≤ n → k ≡ length f → RunEnd a f k
   unfolding run_words run_of
-  end_short h =
+  end_short e h q =
       let l : length f ≤ (a.pages + 1) * words_of a.size = omega arith in
-      record {
+      rw q
+      (record {
         least = omega arith;
         inside = omega arith;
         run = take-length f ∙ sym (take_all ((a.pages + 1) * words_of a.size) f l);
         rest = drop-length f ∙ sym (drop_of_length-le f l);
-      }
+      })
 
-  pub end_run : n ≤ length f → RunEnd a f n
+  end_run : n ≡ (a.pages + 1) * words_of a.size → n ≤ length f → k ≡ n → RunEnd a f k
   unfolding run_words run_of
-  end_run h = record { least = omega arith; inside = h; run = ap (λ (u : ℕ). take u f) e; rest = ap (λ (u : ℕ). drop u f) e }
+  end_run e h q =
+      let d = q ∙ e in
+      record { least = omega arith; inside = omega arith; run = ap (λ (u : ℕ). take u f) d; rest = ap (λ (u : ℕ). drop u f) d }
+
+  pub end_least : n ≡ (a.pages + 1) * words_of a.size → k ≡ min (length f) n → RunEnd a f k
+  end_least e q =
+      ⊎_elim
+      (λ (h : n ≤ length f). let d : k ≡ n = omega arith in end_run e h d)
+      (λ (h : length f < n). let l : length f ≤ n = omega arith in let d : k ≡ length f = omega arith in end_short e l d)
+      (le_or_lt n (length f))
 
 -- so many words can be counted
 pub run_counted : {n m : ℕ} → Fits w8 n → m ≤ 1024 → Fits w64 ((n + 1) * m)
@@ -48,4 +59,4 @@ run_counted {n} {m} h l =
 pub run_product : {m : ℕ} (n : ℕ) (s : PageSize) → m ≡ words_of s → (n + 1) * m ≡ (n + 1) * words_of s
 run_product n s e = ap (λ (u : ℕ). (n + 1) * u) e
 
-pub ruleset runs = (area_of_shape, end_short, end_run, run_counted, run_product)
+pub ruleset runs = (end_least)

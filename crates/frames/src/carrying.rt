@@ -3,11 +3,12 @@
 // Every function here is proved. `carry` takes any state, flash and line.
 ghost use Rattle.std.specs.Prelude.{◌≡◌};
 ghost use Rattle.rules.specs.Refusals.{answer_number, answer_stores};
-ghost use Rattle.rules.specs.Lists.{recover, write, delete};
-ghost use Rattle.frames.specs.Frames.{plain, read_reply, list_reply, size_named, shape_after, bad_frame, requested, read_frame, list_frame, is_format, format_frame, carried};
-ghost use Rattle.frames.specs.Carrying.{Carries, Spends, Tells};
+ghost use Rattle.frames.specs.Frames.{plain, read_reply, list_reply, shape_after, bad_frame, requested, read_frame, list_frame, format_frame, carried};
+ghost use Rattle.frames.specs.Requests.{meant};
+ghost use Rattle.frames.specs.Carrying.{Carries, Spends, Tells, size_if, shape_if};
 
-use crate::{ENOUGH, Frame, Reply, Shape, State, Tail, line, requests};
+use crate::requests::{self, Request};
+use crate::{ENOUGH, Frame, Reply, Shape, State, Tail, line};
 use rules::{Answer, Made, PageSize, Reading, Refusal, Yielded};
 
 // The number of a line that is no frame.
@@ -73,17 +74,27 @@ fn list_reply(shape: Shape, mask: u16, pattern: u16, yielded: Yielded) -> Reply
     }
 }
 
-// The page size that a format names.
-fn size_named(size: u8) -> PageSize
-    ensures { result ≡ size_named size }
+// The page size that a format names by a number, if there is one.
+fn size_named(size: u8) -> Option<PageSize>
+    ensures { result ≡ size_if size }
 {
-    if size == 0 {
-        return PageSize::Small;
+    match size {
+        0 => Some(PageSize::Small),
+        1 => Some(PageSize::Medium),
+        2 => Some(PageSize::Large),
+        _ => None,
     }
-    if size == 1 {
-        return PageSize::Medium;
+}
+
+// The area that a format names, if there can be one of so many pages of a size on the console.
+fn shape_named(pages: u8, size: u8) -> Option<Shape>
+    ensures { result ≡ shape_if pages size }
+{
+    if !matches!(pages, 1..=15) {
+        return None;
     }
-    PageSize::Large
+    let size = size_named(size)?;
+    Some(Shape { pages, size })
 }
 
 // The area behind a format: the new one if it was made.
@@ -100,23 +111,20 @@ fn shape_after(old: Shape, new: Shape, answer: Answer) -> Shape
 fn spent(state: State, answer: Answer) -> Taken
     ensures { Spends state answer result }
 {
-    let shape = state.shape;
-    let next = State {
-        shape,
-        power: ENOUGH,
-    };
     Taken {
-        state: next,
+        state: State {
+            power: ENOUGH,
+            ..state
+        },
         reply: answer_reply(answer),
     }
 }
 
-// A write.
-fn carry_write(state: State, flash: &mut [u32], handle: u16, data: &[u32]) -> Taken
-    ensures { Carries (requested state flash.old (write handle «data».now)) result flash.new }
+// A write, a delete or a recovery: a request with the power that was named for it.
+fn carry_request(state: State, flash: &mut [u32], request: Request) -> Taken
+    ensures { Carries (requested state flash.old (meant request.entry)) result flash.new }
 {
-    let shape = state.shape;
-    let answer = requests::write(flash, shape, handle, data, state.power);
+    let answer = requests::make(flash, state.shape, request, state.power);
     spent(state, answer)
 }
 
@@ -124,21 +132,11 @@ fn carry_write(state: State, flash: &mut [u32], handle: u16, data: &[u32]) -> Ta
 fn carry_read(state: State, flash: &[u32], handle: u16) -> Taken
     ensures { Carries (read_frame state flash.now handle) result flash.now }
 {
-    let shape = state.shape;
-    let reading = requests::read(flash, shape, handle);
+    let reading = requests::read(flash, state.shape, handle);
     Taken {
         state,
         reply: read_reply(reading),
     }
-}
-
-// A delete.
-fn carry_delete(state: State, flash: &mut [u32], handle: u16) -> Taken
-    ensures { Carries (requested state flash.old (delete handle)) result flash.new }
-{
-    let shape = state.shape;
-    let answer = requests::delete(flash, shape, handle, state.power);
-    spent(state, answer)
 }
 
 // A list. One check of the area is made.
@@ -153,59 +151,33 @@ fn carry_list(state: State, flash: &[u32], mask: u16, pattern: u16) -> Taken
     }
 }
 
-// A recovery.
-fn carry_recover(state: State, flash: &mut [u32]) -> Taken
-    ensures { Carries (requested state flash.old recover) result flash.new }
-{
-    let shape = state.shape;
-    let answer = requests::recover(flash, shape, state.power);
-    spent(state, answer)
-}
-
 // The state with so much power for the next frame that is to spend it.
 fn powered(state: State, power: u16) -> Taken
     ensures { Tells (record { shape = state.shape; power = power }) (plain 0 0) result }
 {
-    let shape = state.shape;
-    let next = State {
-        shape,
-        power: power as u32,
-    };
     Taken {
-        state: next,
+        state: State {
+            power: u32::from(power),
+            ..state
+        },
         reply: plain(0, 0),
     }
-}
-
-// Whether there can be an area of so many pages of a size on the console.
-fn is_format(pages: u8, size: u8) -> bool
-    ensures { result ≡ is_format pages size }
-{
-    (1 <= pages) & ((pages <= 15) & (size <= 2))
 }
 
 // A format of so many pages of a size.
 fn carry_format(state: State, flash: &mut [u32], pages: u8, size: u8) -> Taken
     ensures { Carries (format_frame state flash.old pages size) result flash.new }
 {
-    let old = state.shape;
-    if !is_format(pages, size) {
+    let Some(new) = shape_named(pages, size) else {
         return Taken {
             state,
             reply: plain(Refusal::Geometry.number(), 0),
         };
-    }
-    let new = Shape {
-        pages,
-        size: size_named(size),
     };
-    let answer = requests::format(flash, new, ENOUGH);
-    let next = State {
-        shape: shape_after(old, new, answer),
-        power: state.power,
-    };
+    let answer = requests::make(flash, new, Request::Format, ENOUGH);
+    let shape = shape_after(state.shape, new, answer);
     Taken {
-        state: next,
+        state: State { shape, ..state },
         reply: answer_reply(answer),
     }
 }
@@ -221,22 +193,27 @@ fn bad_frame(state: State) -> Taken
 }
 
 // Carries a line out.
+#[tactic(auto, using(crate::specs::Carrying::dispatches))]
 pub fn carry(state: State, flash: &mut [u32], line: &[u8]) -> Taken
     ensures { Carries (carried state flash.old line.now) result flash.new }
 {
     let mut words = [0u32; 40];
-    let frame = line::read_frame(line, &mut words);
+    let Some(frame) = line::read_frame(line, &mut words) else {
+        return bad_frame(state);
+    };
     match frame {
         Frame::Write {
             handle,
             words: count,
-        } => carry_write(state, flash, handle, &words[..count]),
+        } => {
+            let data = &words[..count];
+            carry_request(state, flash, Request::Write { handle, data })
+        }
         Frame::Read(handle) => carry_read(state, flash, handle),
-        Frame::Delete(handle) => carry_delete(state, flash, handle),
+        Frame::Delete(handle) => carry_request(state, flash, Request::Delete(handle)),
         Frame::List { mask, pattern } => carry_list(state, flash, mask, pattern),
-        Frame::Recover => carry_recover(state, flash),
+        Frame::Recover => carry_request(state, flash, Request::Recover),
         Frame::Power(power) => powered(state, power),
         Frame::Format { pages, size } => carry_format(state, flash, pages, size),
-        Frame::Bad => bad_frame(state),
     }
 }

@@ -68,7 +68,7 @@ pub struct Reply {
 
 // A frame of document 01, "The console". Of a write it has the number of words; the words themselves
 // are in a buffer beside it.
-#[derive(Clone, Copy)]
+#[derive(Clone, Copy, PartialEq, Eq, Debug)]
 pub enum Frame {
     Write { handle: u16, words: usize },
     Read(u16),
@@ -77,11 +77,10 @@ pub enum Frame {
     Recover,
     Power(u16),
     Format { pages: u8, size: u8 },
-    Bad,
 }
 
 // What of an answer is in the buffer: so many bytes, and whether there are more behind them.
-#[derive(Clone, Copy)]
+#[derive(Clone, Copy, PartialEq, Eq, Debug)]
 pub struct Said {
     pub count: usize,
     pub more: bool,
@@ -99,12 +98,11 @@ pub struct Answered {
 pub fn start() -> State
     ensures { result ≡ start }
 {
-    let none = Shape {
-        pages: 0,
-        size: PageSize::Small,
-    };
     State {
-        shape: none,
+        shape: Shape {
+            pages: 0,
+            size: PageSize::Small,
+        },
         power: ENOUGH,
     }
 }
@@ -114,12 +112,10 @@ pub fn answer(state: State, flash: &mut [u32], line: &[u8], out: &mut [u8]) -> A
     ensures { Responds state flash.old line.now out.old result flash.new out.new }
 {
     let taken = carrying::carry(state, flash, line);
-    let next = taken.state;
-    let reply = taken.reply;
-    let said = say(reply, flash, 0, out);
+    let said = say(taken.reply, flash, 0, out);
     Answered {
-        state: next,
-        reply,
+        state: taken.state,
+        reply: taken.reply,
         said,
     }
 }
@@ -128,12 +124,7 @@ pub fn answer(state: State, flash: &mut [u32], line: &[u8], out: &mut [u8]) -> A
 pub fn line_length(text: &[u8]) -> usize
     ensures { (result ≡ line_length text.now) × (result ≤ length text.now) }
 {
-    let mut i: usize = 0;
-    while i < text.len() {
-        if text[i] == b'\n' {
-            return i;
-        }
-        i += 1;
-    }
-    i
+    text.iter()
+        .position(|byte| *byte == b'\n')
+        .unwrap_or(text.len())
 }

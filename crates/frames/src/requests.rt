@@ -2,64 +2,48 @@
 //
 // Every function here is proved, and none has a `requires`.
 ghost use Rattle.std.specs.Prelude.{◌≡◌};
-ghost use Rattle.rules.specs.Lists.{format, recover, write, delete};
 ghost use Rattle.rules.specs.Search.{read_of, search_of};
 ghost use Rattle.frames.specs.Frames.{area_of, run_of};
-ghost use Rattle.frames.specs.Requests.{Makes};
+ghost use Rattle.frames.specs.Requests.{Makes, meant};
 
-use crate::{Shape, shapes};
+use crate::Shape;
 use rules::{Answer, Reading, Yielded};
 
-// A recovery.
-pub fn recover(flash: &mut [u32], shape: Shape, power: u32) -> Answer
-    ensures { Makes shape recover power flash.old result flash.new }
-{
-    let end = shapes::run_end(flash, shape);
-    manager::recover(&mut flash[..end], shapes::area_of(shape), power)
+// A request that may store.
+#[derive(Clone, Copy)]
+pub enum Request<'a> {
+    Format,
+    Recover,
+    Write { handle: u16, data: &'a [u32] },
+    Delete(u16),
 }
 
-// A format.
-pub fn format(flash: &mut [u32], shape: Shape, power: u32) -> Answer
-    ensures { Makes shape format power flash.old result flash.new }
+// Makes a request that may store, as far as the power goes.
+#[tactic(auto, using(crate::specs::Requests::requests))]
+pub fn make(flash: &mut [u32], shape: Shape, request: Request, power: u32) -> Answer
+    ensures { Makes shape (meant request.entry) power flash.old result flash.new }
 {
-    let end = shapes::run_end(flash, shape);
-    manager::format(&mut flash[..end], shapes::area_of(shape), power)
-}
-
-// A delete.
-pub fn delete(flash: &mut [u32], shape: Shape, handle: u16, power: u32) -> Answer
-    ensures { Makes shape (delete handle) power flash.old result flash.new }
-{
-    let end = shapes::run_end(flash, shape);
-    manager::delete(&mut flash[..end], shapes::area_of(shape), handle, power)
-}
-
-// A write.
-pub fn write(flash: &mut [u32], shape: Shape, handle: u16, data: &[u32], power: u32) -> Answer
-    ensures { Makes shape (write handle «data».now) power flash.old result flash.new }
-{
-    let end = shapes::run_end(flash, shape);
-    manager::write(
-        &mut flash[..end],
-        shapes::area_of(shape),
-        handle,
-        data,
-        power,
-    )
+    let area = shape.area();
+    let end = shape.run_end(flash);
+    let run = &mut flash[..end];
+    match request {
+        Request::Format => manager::format(run, area, power),
+        Request::Recover => manager::recover(run, area, power),
+        Request::Write { handle, data } => manager::write(run, area, handle, data, power),
+        Request::Delete(handle) => manager::delete(run, area, handle, power),
+    }
 }
 
 // A read.
 pub fn read(flash: &[u32], shape: Shape, handle: u16) -> Reading
     ensures { result ≡ read_of (area_of shape) handle (run_of shape flash.now) }
 {
-    let end = shapes::run_end(flash, shape);
-    manager::read(&flash[..end], shapes::area_of(shape), handle)
+    manager::read(shape.run_of(flash), shape.area(), handle)
 }
 
 // A search from the start.
 pub fn search(flash: &[u32], shape: Shape, mask: u16, pattern: u16) -> Yielded
     ensures { result ≡ search_of (area_of shape) mask pattern 0 (run_of shape flash.now) }
 {
-    let end = shapes::run_end(flash, shape);
-    searching::search(&flash[..end], shapes::area_of(shape), mask, pattern, 0)
+    searching::search(shape.run_of(flash), shape.area(), mask, pattern, 0)
 }

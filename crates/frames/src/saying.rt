@@ -8,7 +8,6 @@ ghost use Rattle.rules.specs.Places.{Right};
 ghost use Rattle.frames.specs.Frames.{digit, two_digits, four_digits, eight_digits, eights, fours, handles, list_handles, tail_bytes, bytes, Says};
 ghost use Rattle.frames.specs.Saying.{Wrote, four_if};
 
-use crate::shapes::{area_of, run_end};
 use crate::{Reply, Said, Shape, Tail};
 use rules::Area;
 
@@ -145,8 +144,8 @@ fn handles(out: &mut [u8], flash: &[u32], area: Area, mask: u32, pattern: u32, p
 fn listed(out: &mut [u8], flash: &[u32], shape: Shape, mask: u16, pattern: u16, pen: Pen) -> Pen
     ensures { Wrote (fours (list_handles shape mask pattern flash.now)) pen out.old result out.new }
 {
-    let area = area_of(shape);
-    let run = entries::up_to(flash, run_end(flash, shape));
+    let area = shape.area();
+    let run = shape.run_of(flash);
     if area::wrong_geometry(run, area) {
         return pen;
     }

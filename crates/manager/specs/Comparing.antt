@@ -1,5 +1,4 @@
--- Whether two lists of words are the same, from what a loop over both has come to, and whether a handle holds given data, from what is
--- found of it: laws. Assumes nothing.
+-- Whether a handle holds given data, from what is found of it: laws. Assumes nothing.
 use Rattle.std.specs.Prelude.{◌≡◌, refl, Bool, true, false, ◌&&◌, ℕ, suc, ◌+◌, ◌-◌, ◌≤◌, ◌<◌, length, get_or, take, drop, eqb, Option, Some, None}
 use Rattle.std.proofs.Common.{sym, ◌∙◌, arith, add-one, drop_of_length-le, drop-cons, eq-eqb, ne_eqb}
 use Rattle.std.proofs.Math.Path.{ap}
@@ -11,39 +10,6 @@ use Rattle.rules.specs.Refusals.{same_words, is_data, holds}
 use Rattle.rules.specs.Places.{Right}
 use Rattle.entries.specs.Ahead.{found_of, found_none, found_some, first_inside}
 use Rattle.rules.specs.declared.Found.{Found}
-
--- ---- lists of one length are the same up to i: the words from there on decide
-pub record Comparing (x y : List ℕ) (i : ℕ) : Type 0 where
-  pub long : length x ≡ length y
-  pub same : same_words (drop i x) (drop i y) ≡ same_words x y
-
-pub comparing_start : {x y : List ℕ} → length x ≡ length y → Comparing x y 0
-comparing_start l = record { long = l; same = refl }
-
-module _ {x y : List ℕ} {i : ℕ} (c : Comparing x y i) where
-  here : i < length x → eqb (get_or x i 0) (get_or y i 0) && same_words (drop (i + 1) x) (drop (i + 1) y) ≡ same_words x y
-  here h =
-      let k : i < length y = omega (arith, c.long) in
-      rw (add-one i) (rw (drop-cons x i 0 h, drop-cons y i 0 k) at c.same)
-
-  pub comparing_on : i < length x → get_or x i 0 ≡ get_or y i 0 → Comparing x y (i + 1)
-  comparing_on h q = record { long = c.long; same = rw (eq-eqb (get_or x i 0) (get_or y i 0) q) at (here h) }
-
-  pub comparing_stop : i < length x → (get_or x i 0 ≡ get_or y i 0 → ⊥) → false ≡ same_words x y
-  comparing_stop h q = rw (ne_eqb (get_or x i 0) (get_or y i 0) q) at (here h)
-
-  pub comparing_end : length x ≤ i → true ≡ same_words x y
-  comparing_end h =
-      let k : length y ≤ i = omega (arith, c.long) in
-      rw (drop_of_length-le x h, drop_of_length-le y k) at c.same
-
-pub other_length : (x y : List ℕ) → (length x ≡ length y → ⊥) → false ≡ same_words x y
-other_length [] [] h = absurd (h refl)
-other_length [] (w ∷ y) h = refl
-other_length (w ∷ x) [] h = refl
-other_length (w ∷ x) (v ∷ y) h = rw (← other_length x y (λ q. h (ap suc q))) (sym (and-false (eqb w v)))
-
-pub ruleset sames = (comparing_start, comparing_on, comparing_stop, comparing_end, other_length)
 
 -- ---- a handle holds what its entry's data are
 -- the words behind a place

@@ -9,7 +9,7 @@ ghost use Rattle.std.specs.Prelude.{true, ◌≡◌, suc, ◌+◌, min, ◌≤�
 ghost use Rattle.rules.specs.Words.{longest};
 ghost use Rattle.rules.specs.Walk.{entry_length};
 ghost use Rattle.rules.specs.Areas.{ready};
-ghost use Rattle.rules.specs.Refusals.{bad_handle, same_words};
+ghost use Rattle.rules.specs.Refusals.{bad_handle};
 ghost use Rattle.rules.specs.Lists.{format, recover, write, delete};
 ghost use Rattle.rules.specs.Laws.{answer_of};
 ghost use Rattle.rules.specs.Places.{Right};
@@ -26,7 +26,7 @@ use survey::View;
 fn bad_handle(handle: u32) -> bool
     ensures { result ≡ bad_handle handle }
 {
-    (handle == 0) | (SPECIAL <= handle)
+    handle == 0 || SPECIAL <= handle
 }
 
 // Where a handle's data lie: the place of its live entry's header in the run, one word before the
@@ -116,10 +116,7 @@ pub fn delete(flash: &mut [u32], area: Area, handle: u16, power: u32) -> Answer
 fn entry_words(data: &[u32]) -> usize
     ensures { (result ≡ min (entry_length «data».now) longest) × (result ≤ longest) }
 {
-    if data.len() <= 32 {
-        return data.len() + 1;
-    }
-    33
+    data.len().min(32) + 1
 }
 
 // The data of an entry: so many words of the run behind a place.
@@ -132,30 +129,13 @@ fn data_at(flash: &[u32], place: usize, words: usize) -> &[u32]
     &flash[start..end]
 }
 
-// Whether two lists of words are the same.
-fn same_words(xs: &[u32], ys: &[u32]) -> bool
-    ensures { result ≡ same_words xs.now ys.now }
-{
-    if xs.len() != ys.len() {
-        return false;
-    }
-    let mut i: usize = 0;
-    while i < xs.len() {
-        if xs[i] != ys[i] {
-            return false;
-        }
-        i += 1;
-    }
-    true
-}
-
 // Whether the entry found has these very data; false if none was found.
 fn has_words(flash: &[u32], found: Option<Found>, data: &[u32]) -> bool
     requires { last_word found < length flash.now }
     ensures { result ≡ has_words flash.now found «data».now }
 {
     match found {
-        Some(entry) => same_words(data_at(flash, entry.place, entry.words), data),
+        Some(entry) => data_at(flash, entry.place, entry.words) == data,
         None => false,
     }
 }

@@ -5,7 +5,7 @@
 //! Every function here is proved. `kind_at` alone has a `requires`: that it is told where the walk stops.
 #![tactic(auto)]
 
-ghost use Rattle.std.specs.Prelude.{◌≡◌, ◌-◌, ◌≤◌, ◌<◌, length, drop};
+ghost use Rattle.std.specs.Prelude.{◌≡◌, ◌≢◌, ◌-◌, ◌≤◌, ◌<◌, length, drop, IfSome, IfNone};
 ghost use Rattle.rules.specs.Words.{handle_of, length_of};
 ghost use Rattle.rules.specs.Walk.{items, stop, all_blank, meta_right, kind_of};
 ghost use Rattle.rules.specs.Areas.{placed, recovery_of, live_words};
@@ -28,22 +28,23 @@ pub fn length_of(word: u32) -> usize
     (word % 65536) as usize
 }
 
-// The length of the entry that begins at a place of a page, 0 if none does.
+// The length of the entry that begins at a place of a page, if one does.
 #[tactic(auto, using(crate::specs::Steps::steps))]
-pub fn length_at(page: &[u32], at: usize) -> usize
-    ensures { (result ≡ length_at page.now at) × (result ≤ length page.now - at - 1) }
+pub fn length_at(page: &[u32], at: usize) -> Option<usize>
+    ensures some { IfSome result (λ n. (n ≡ length_at page.now at) × (n ≢ 0) × (n ≤ length page.now - at - 1)) }
+    ensures none { IfNone result (0 ≡ length_at page.now at) }
 {
-    if page.len() <= at {
-        return 0;
-    }
-    let word = page[at];
-    let handle = handle_of(word);
+    let word = *page.get(at)?;
     let length = length_of(word);
-    let left = page.len() - at - 1;
-    if (handle < SPECIAL) & ((1 <= length) & ((length <= PageSize::LONGEST) & (length <= left))) {
-        return length;
+    if handle_of(word) < SPECIAL
+        && 1 <= length
+        && length <= PageSize::LONGEST
+        && at + length < page.len()
+    {
+        Some(length)
+    } else {
+        None
     }
-    0
 }
 
 // The place where the walk of a page stops.
@@ -54,14 +55,11 @@ pub fn stop(page: &[u32]) -> usize
     if page.len() < 2 {
         return page.len();
     }
-    let mut at: usize = 2;
-    loop {
-        let length = length_at(page, at);
-        if length == 0 {
-            return at;
-        }
+    let mut at = 2;
+    while let Some(length) = length_at(page, at) {
         at += length;
     }
+    at
 }
 
 // Whether all words of a page from a place on are blank.
@@ -147,14 +145,11 @@ pub fn live_words(page: &[u32]) -> usize
     if page.len() < 2 {
         return 0;
     }
-    let mut at: usize = 2;
-    let mut sum: usize = 0;
-    loop {
-        let words = length_at(page, at);
-        if words == 0 {
-            return sum;
-        }
+    let mut at = 2;
+    let mut sum = 0;
+    while let Some(words) = length_at(page, at) {
         sum += counted(handle_of(page[at]), words);
         at += words;
     }
+    sum
 }

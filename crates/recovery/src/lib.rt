@@ -45,21 +45,15 @@ fn finish(flash: &mut [u32], area: Area, power: Power) -> Power
 fn last_live(part: &[u32], start: usize) -> Option<Found>
     ensures { (result ≡ found_of (if_live (last_of (entries_at part.now start)))) × (data_words result ≤ length part.now) }
 {
-    let mut place = start;
-    let mut length: usize = 0;
+    let mut last = None;
     let mut at = start;
-    loop {
-        let next = pages::length_at(part, at);
-        if next == 0 {
-            break;
-        }
-        place = at;
-        length = next;
-        at += next;
+    while let Some(length) = pages::length_at(part, at) {
+        last = Some((at, length));
+        at += length;
     }
-    if length == 0 {
+    let Some((place, length)) = last else {
         return None;
-    }
+    };
     if pages::handle_of(part[place]) == 0 {
         return None;
     }

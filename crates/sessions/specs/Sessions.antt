@@ -1,6 +1,6 @@
 -- Laws of a line's answer and of a whole input: what the power and the area are behind a line, how long an answer is, and that each line
 -- has one answer line. Assumes nothing.
-use Rattle.std.specs.Prelude.{◌≡◌, refl, ◌≢◌, List, [], ◌∷◌, ◌++◌, Bool, true, false, cond, ℕ, suc, ◌+◌, ◌*◌, ◌/◌, ◌%◌, ◌≤◌, ◌<◌, length, take, drop, leb, ltb, eqb}
+use Rattle.std.specs.Prelude.{◌≡◌, refl, Option, Some, None, ◌≢◌, List, [], ◌∷◌, ◌++◌, Bool, true, false, cond, ℕ, suc, ◌+◌, ◌*◌, ◌/◌, ◌%◌, ◌≤◌, ◌<◌, length, take, drop, leb, ltb, eqb}
 use Rattle.std.proofs.Common.{ap, sym, ◌∙◌, subst, append_assoc, append-nil, true≢false, zero-le, arith, length-append, length-take, length-drop, take-append-drop, take_at, take_all, leb-true, le-leb, ltb-true, ltb-false, ne_eqb}
 use Rattle.std.proofs.lemmas.Bool.{false≢true, lt-leb}
 use Rattle.rules.specs.declared.Area.{Area}
@@ -33,7 +33,7 @@ run_own a f = take-append-drop (run_words a) f
 -- ---- formats
 -- one that is well-formed is carried out on at most 15 pages, or refused for its geometry
 pub format_cases : (P : Effect → Type 0) (s : State) (f l : List ℕ) (n size : ℕ) → (n ≤ 15 → P (format_area s f (record { pages = n; size = size_named size })))
-    → P (told s f (plain 0x01 0)) → P (carried_by s f l (Frame.Format n size))
+    → P (told s f (plain 0x01 0)) → P (carried_by s f l (Some (Frame.Format n size)))
 format_cases P s f l n size p q = go (is_format n size) refl
   where
     go : (b : Bool) → is_format n size ≡ b → P (cond b (format_area s f (record { pages = n; size = size_named size })) (told s f (plain 0x01 0)))
@@ -48,10 +48,10 @@ format_whole a f h = let e = format_length (area_of a) (run_of a f) in le-leb (l
 abbrev Leaves : State → List ℕ → Effect → Type 0
 Leaves s f c = c.reply.number ≢ 0x00 → (c.state ≡ s) × (c.flash ≡ f)
 
-pub refused_format : (s : State) (f l : List ℕ) (n size : ℕ) → frame_of l ≡ Frame.Format n size → (carried s f l).reply.number ≢ 0x00
+pub refused_format : (s : State) (f l : List ℕ) (n size : ℕ) → frame_of l ≡ Some (Frame.Format n size) → (carried s f l).reply.number ≢ 0x00
     → ((carried s f l).state ≡ s) × ((carried s f l).flash ≡ f)
 unfolding carried
-refused_format s f l n size e = subst (λ (x : Frame). Leaves s f (carried_by s f l x)) (sym e) (format_cases (Leaves s f) s f l n size (planned (wrong_geometry (area_of a) (run_of a f)) refl) (λ m. (refl, refl)))
+refused_format s f l n size e = subst (λ (x : Option Frame). Leaves s f (carried_by s f l x)) (sym e) (format_cases (Leaves s f) s f l n size (planned (wrong_geometry (area_of a) (run_of a f)) refl) (λ m. (refl, refl)))
   where
     a : Shape
     a = record { pages = n; size = size_named size }
@@ -61,67 +61,67 @@ refused_format s f l n size e = subst (λ (x : Frame). Leaves s f (carried_by s 
     planned false q h m = absurd (m (rw (q, format_whole a f h)))
 
 -- and no other frame changes the area
-abbrev pub formats : Frame → Bool
-formats (Frame.Write h n) = false
-formats (Frame.Read h) = false
-formats (Frame.Delete h) = false
-formats (Frame.List mask pattern) = false
-formats Frame.Recover = false
-formats (Frame.Power k) = false
-formats (Frame.Format n size) = true
-formats Frame.Bad = false
+abbrev pub formats : Option Frame → Bool
+formats (Some (Frame.Write h n)) = false
+formats (Some (Frame.Read h)) = false
+formats (Some (Frame.Delete h)) = false
+formats (Some (Frame.List mask pattern)) = false
+formats (Some Frame.Recover) = false
+formats (Some (Frame.Power k)) = false
+formats (Some (Frame.Format n size)) = true
+formats None = false
 
 pub same_shape : (s : State) (f l : List ℕ) → formats (frame_of l) ≡ false → (carried s f l).state.shape ≡ s.shape
 unfolding carried
 same_shape s f l = go (frame_of l)
   where
-    go : (x : Frame) → formats x ≡ false → (carried_by s f l x).state.shape ≡ s.shape
-    go (Frame.Write h n) e = refl
-    go (Frame.Read h) e = refl
-    go (Frame.Delete h) e = refl
-    go (Frame.List mask pattern) e = refl
-    go Frame.Recover e = refl
-    go (Frame.Power k) e = refl
-    go (Frame.Format n size) e = absurd (true≢false e)
-    go Frame.Bad e = refl
+    go : (x : Option Frame) → formats x ≡ false → (carried_by s f l x).state.shape ≡ s.shape
+    go (Some (Frame.Write h n)) e = refl
+    go (Some (Frame.Read h)) e = refl
+    go (Some (Frame.Delete h)) e = refl
+    go (Some (Frame.List mask pattern)) e = refl
+    go (Some Frame.Recover) e = refl
+    go (Some (Frame.Power k)) e = refl
+    go (Some (Frame.Format n size)) e = absurd (true≢false e)
+    go None e = refl
 
 -- ---- power
 -- behind a frame, by what it was before
-abbrev pub power_after : Frame → ℕ → ℕ
-power_after (Frame.Write h n) k = enough
-power_after (Frame.Read h) k = k
-power_after (Frame.Delete h) k = enough
-power_after (Frame.List mask pattern) k = k
-power_after Frame.Recover k = enough
-power_after (Frame.Power j) k = j
-power_after (Frame.Format n size) k = k
-power_after Frame.Bad k = k
+abbrev pub power_after : Option Frame → ℕ → ℕ
+power_after (Some (Frame.Write h n)) k = enough
+power_after (Some (Frame.Read h)) k = k
+power_after (Some (Frame.Delete h)) k = enough
+power_after (Some (Frame.List mask pattern)) k = k
+power_after (Some Frame.Recover) k = enough
+power_after (Some (Frame.Power j)) k = j
+power_after (Some (Frame.Format n size)) k = k
+power_after None k = k
 
 pub carried_power : (s : State) (f l : List ℕ) → (carried s f l).state.power ≡ power_after (frame_of l) s.power
 unfolding carried
 carried_power s f l = go (frame_of l)
   where
-    go : (x : Frame) → (carried_by s f l x).state.power ≡ power_after x s.power
-    go (Frame.Write h n) = refl
-    go (Frame.Read h) = refl
-    go (Frame.Delete h) = refl
-    go (Frame.List mask pattern) = refl
-    go Frame.Recover = refl
-    go (Frame.Power j) = refl
-    go (Frame.Format n size) = format_cases (λ c. c.state.power ≡ s.power) s f l n size (λ h. refl) refl
-    go Frame.Bad = refl
+    go : (x : Option Frame) → (carried_by s f l x).state.power ≡ power_after x s.power
+    go (Some (Frame.Write h n)) = refl
+    go (Some (Frame.Read h)) = refl
+    go (Some (Frame.Delete h)) = refl
+    go (Some (Frame.List mask pattern)) = refl
+    go (Some Frame.Recover) = refl
+    go (Some (Frame.Power j)) = refl
+    go (Some (Frame.Format n size)) = format_cases (λ c. c.state.power ≡ s.power) s f l n size (λ h. refl) refl
+    go None = refl
 
 -- ---- before a format
 -- the kinds 01 to 05
-abbrev pub on_area : Frame → Bool
-on_area (Frame.Write h n) = true
-on_area (Frame.Read h) = true
-on_area (Frame.Delete h) = true
-on_area (Frame.List mask pattern) = true
-on_area Frame.Recover = true
-on_area (Frame.Power k) = false
-on_area (Frame.Format n size) = false
-on_area Frame.Bad = false
+abbrev pub on_area : Option Frame → Bool
+on_area (Some (Frame.Write h n)) = true
+on_area (Some (Frame.Read h)) = true
+on_area (Some (Frame.Delete h)) = true
+on_area (Some (Frame.List mask pattern)) = true
+on_area (Some Frame.Recover) = true
+on_area (Some (Frame.Power k)) = false
+on_area (Some (Frame.Format n size)) = false
+on_area None = false
 
 -- they are answered GEOMETRY, and all but the power stays
 pub before_format : (k : ℕ) (f l : List ℕ) → on_area (frame_of l) ≡ true
@@ -129,42 +129,42 @@ pub before_format : (k : ℕ) (f l : List ℕ) → on_area (frame_of l) ≡ true
 unfolding carried wrong_geometry
 before_format k f l = go (frame_of l)
   where
-    go : (x : Frame) → on_area x ≡ true
+    go : (x : Option Frame) → on_area x ≡ true
         → carried_by (record { shape = start.shape; power = k }) f l x ≡ record { state = record { shape = start.shape; power = power_after x k }; reply = plain 0x01 0; flash = f }
-    go (Frame.Write h n) e = rw (run_own start.shape f)
-    go (Frame.Read h) e = refl
-    go (Frame.Delete h) e = rw (run_own start.shape f)
-    go (Frame.List mask pattern) e = refl
-    go Frame.Recover e = rw (run_own start.shape f)
-    go (Frame.Power j) e = absurd (false≢true e)
-    go (Frame.Format n size) e = absurd (false≢true e)
-    go Frame.Bad e = absurd (false≢true e)
+    go (Some (Frame.Write h n)) e = rw (run_own start.shape f)
+    go (Some (Frame.Read h)) e = refl
+    go (Some (Frame.Delete h)) e = rw (run_own start.shape f)
+    go (Some (Frame.List mask pattern)) e = refl
+    go (Some Frame.Recover) e = rw (run_own start.shape f)
+    go (Some (Frame.Power j)) e = absurd (false≢true e)
+    go (Some (Frame.Format n size)) e = absurd (false≢true e)
+    go None e = absurd (false≢true e)
 
 -- ---- an answer's bytes
 -- frames that are answered with words or handles
-abbrev pub tells : Frame → Bool
-tells (Frame.Write h n) = false
-tells (Frame.Read h) = true
-tells (Frame.Delete h) = false
-tells (Frame.List mask pattern) = true
-tells Frame.Recover = false
-tells (Frame.Power k) = false
-tells (Frame.Format n size) = false
-tells Frame.Bad = false
+abbrev pub tells : Option Frame → Bool
+tells (Some (Frame.Write h n)) = false
+tells (Some (Frame.Read h)) = true
+tells (Some (Frame.Delete h)) = false
+tells (Some (Frame.List mask pattern)) = true
+tells (Some Frame.Recover) = false
+tells (Some (Frame.Power k)) = false
+tells (Some (Frame.Format n size)) = false
+tells None = false
 
 pub answer_plain : (s : State) (f l : List ℕ) → tells (frame_of l) ≡ false → (carried s f l).reply.tail ≡ Tail.Nothing
 unfolding carried
 answer_plain s f l = go (frame_of l)
   where
-    go : (x : Frame) → tells x ≡ false → (carried_by s f l x).reply.tail ≡ Tail.Nothing
-    go (Frame.Write h n) e = refl
-    go (Frame.Read h) e = absurd (true≢false e)
-    go (Frame.Delete h) e = refl
-    go (Frame.List mask pattern) e = absurd (true≢false e)
-    go Frame.Recover e = refl
-    go (Frame.Power k) e = refl
-    go (Frame.Format n size) e = format_cases (λ c. c.reply.tail ≡ Tail.Nothing) s f l n size (λ h. refl) refl
-    go Frame.Bad e = refl
+    go : (x : Option Frame) → tells x ≡ false → (carried_by s f l x).reply.tail ≡ Tail.Nothing
+    go (Some (Frame.Write h n)) e = refl
+    go (Some (Frame.Read h)) e = absurd (true≢false e)
+    go (Some (Frame.Delete h)) e = refl
+    go (Some (Frame.List mask pattern)) e = absurd (true≢false e)
+    go (Some Frame.Recover) e = refl
+    go (Some (Frame.Power k)) e = refl
+    go (Some (Frame.Format n size)) e = format_cases (λ c. c.reply.tail ≡ Tail.Nothing) s f l n size (λ h. refl) refl
+    go None e = refl
 
 -- seven, with those of what comes behind number and stores
 pub answer_length : (r : Reply) (f : List ℕ) → length (bytes r f) ≡ 7 + length (tail_bytes r.tail f)

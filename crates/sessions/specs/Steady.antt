@@ -2,7 +2,7 @@
 -- DAMAGED or BADPLACE, number and stores of every answer fit their digits, and nothing is CUT for which no power was named. Assumes nothing.
 use Rattle.std.proofs.Math.Path.{◌≡◌, refl}
 use Rattle.std.proofs.Common.{ap, sym, ◌∙◌, subst, true≢false, inl, inr, mul-le-mul_right, take_at, leb-true, leb-false, le-leb}
-use Rattle.std.specs.Prelude.{List, [], ◌∷◌, Bool, true, false, cond, ◌&&◌, ◌≢◌, ◌⊎◌, ℕ, suc, zero, ◌+◌, ◌*◌, ◌≤◌, length, get_or, drop, leb, eqb, Ok, Err}
+use Rattle.std.specs.Prelude.{List, [], ◌∷◌, Bool, true, false, cond, ◌&&◌, ◌≢◌, ◌⊎◌, ℕ, suc, zero, ◌+◌, ◌*◌, ◌≤◌, length, get_or, drop, leb, eqb, Ok, Err, Option, Some, None}
 use Rattle.std.proofs.lemmas.Bool.{false≢true, eqb-false}
 use native.Mathlib.Omega.{arith}
 use Rattle.flash.specs.Stores.{blank, Words, none, more, Store, made}
@@ -28,7 +28,7 @@ use Rattle.frames.specs.declared.Tail.{Tail}
 use Rattle.frames.specs.declared.Reply.{Reply}
 use Rattle.frames.specs.declared.Frame.{Frame}
 use Rattle.frames.specs.Frames.{is_digit, all_digits, value, two, four, eight, words_from, frame_of, line_words, area_of, run_words, run_of, with_run, plain, enough, start, read_reply, list_reply, requested, size_named, format_area, carried_by, carried, lines}
-use Rattle.frames.specs.Lines.{value_small}
+use Rattle.frames.specs.Numbers.{value_small}
 use Rattle.sessions.specs.Stepping.{usable_run}
 use Rattle.sessions.specs.Sessions.{format_cases, run_own, format_whole}
 
@@ -59,7 +59,7 @@ unfolding line_words
 data_words l n d = words_from_fit l n 6 d
 
 -- what is no capital hexadecimal is no frame
-pub frame_digits : (l : List ℕ) → frame_of l ≢ Frame.Bad → all_digits l ≡ true
+pub frame_digits : (l : List ℕ) → frame_of l ≢ None → all_digits l ≡ true
 unfolding frame_of
 frame_digits l e = go (leb 2 (length l) && all_digits l) refl
   where
@@ -152,15 +152,15 @@ module _ {s : State} {f : List ℕ} (c : Steady s f) where
   unfolding carried
   carried_sound l = go (frame_of l) refl
     where
-      go : (x : Frame) → frame_of l ≡ x → Steady (carried_by s f l x).state (carried_by s f l x).flash
-      go (Frame.Write h n) e = stored_sound (write h (line_words l n)) (data_words l n (frame_digits l (λ z. let y : ◌≡◌ {A = ℕ} 0 1 = cc in omega arith)))
-      go (Frame.Read h) e = c
-      go (Frame.Delete h) e = stored_sound (delete h) tt
-      go (Frame.List mask pattern) e = c
-      go Frame.Recover e = stored_sound recover tt
-      go (Frame.Power k) e = powered c
-      go (Frame.Format n size) e = format_cases (λ x. Steady x.state x.flash) s f l n size (λ h. format_sound (record { pages = n; size = size_named size }) h) c
-      go Frame.Bad e = c
+      go : (x : Option Frame) → frame_of l ≡ x → Steady (carried_by s f l x).state (carried_by s f l x).flash
+      go (Some (Frame.Write h n)) e = stored_sound (write h (line_words l n)) (data_words l n (frame_digits l (λ z. let y : ◌≡◌ {A = ℕ} 0 1 = cc in omega arith)))
+      go (Some (Frame.Read h)) e = c
+      go (Some (Frame.Delete h)) e = stored_sound (delete h) tt
+      go (Some (Frame.List mask pattern)) e = c
+      go (Some Frame.Recover) e = stored_sound recover tt
+      go (Some (Frame.Power k)) e = powered c
+      go (Some (Frame.Format n size)) e = format_cases (λ x. Steady x.state x.flash) s f l n size (λ h. format_sound (record { pages = n; size = size_named size }) h) c
+      go None e = c
 
 -- ---- what answers can be
 -- neither DAMAGED nor BADPLACE, and number and stores fit two and four digits
@@ -289,16 +289,16 @@ module _ {s : State} {f : List ℕ} (c : Steady s f) where
   unfolding carried
   answer_fits l = go (frame_of l) refl
     where
-      go : (x : Frame) → frame_of l ≡ x → Printable (carried_by s f l x).reply
-      go (Frame.Write h n) e = stored_fits (write h (line_words l n)) (data_words l n (frame_digits l (λ z. let y : ◌≡◌ {A = ℕ} 0 1 = cc in omega arith)))
-      go (Frame.Read h) e = either_fits _ (λ q. rw q) (λ v d. read_fits v c.few d h)
-      go (Frame.Delete h) e = stored_fits (delete h) tt
-      go (Frame.List mask pattern) e = either_fits _ (λ q. rw q) (λ v d. list_reply_fits v c.few d s.shape mask pattern)
-      go Frame.Recover e = stored_fits recover tt
-      go (Frame.Power k) e = fits_done _
-      go (Frame.Format n size) e =
+      go : (x : Option Frame) → frame_of l ≡ x → Printable (carried_by s f l x).reply
+      go (Some (Frame.Write h n)) e = stored_fits (write h (line_words l n)) (data_words l n (frame_digits l (λ z. let y : ◌≡◌ {A = ℕ} 0 1 = cc in omega arith)))
+      go (Some (Frame.Read h)) e = either_fits _ (λ q. rw q) (λ v d. read_fits v c.few d h)
+      go (Some (Frame.Delete h)) e = stored_fits (delete h) tt
+      go (Some (Frame.List mask pattern)) e = either_fits _ (λ q. rw q) (λ v d. list_reply_fits v c.few d s.shape mask pattern)
+      go (Some Frame.Recover) e = stored_fits recover tt
+      go (Some (Frame.Power k)) e = fits_done _
+      go (Some (Frame.Format n size)) e =
           format_cases (λ x. Printable x.reply) s f l n size (λ h. format_fits (record { pages = n; size = size_named size }) h) (fits_refused Geometry refl)
-      go Frame.Bad e = fits_by (plain 0x0A 0) refl refl refl (omega arith)
+      go None e = fits_by (plain 0x0A 0) refl refl refl (omega arith)
 
 -- ---- power that none was named for is enough
 -- no refusal is CUT
@@ -344,15 +344,15 @@ module _ {s : State} {f : List ℕ} (c : Steady s f) (p : s.power ≡ enough) wh
   unfolding carried
   power_enough l = go (frame_of l) refl
     where
-      go : (x : Frame) → frame_of l ≡ x → (carried_by s f l x).reply.number ≢ 0x08
-      go (Frame.Write h n) e = stored_uncut (write h (line_words l n)) (data_words l n (frame_digits l (λ z. let y : ◌≡◌ {A = ℕ} 0 1 = cc in omega arith)))
-      go (Frame.Read h) e = read_uncut (read_of (area_of s.shape) h (run_of s.shape f))
-      go (Frame.Delete h) e = stored_uncut (delete h) tt
-      go (Frame.List mask pattern) e = list_uncut s.shape mask pattern (search_of (area_of s.shape) mask pattern 0 (run_of s.shape f))
-      go Frame.Recover e = stored_uncut recover tt
-      go (Frame.Power k) e = λ z. omega arith
-      go (Frame.Format n size) e = format_cases (λ x. x.reply.number ≢ 0x08) s f l n size (λ h. format_uncut s f (record { pages = n; size = size_named size }) h) (λ z. omega arith)
-      go Frame.Bad e = λ z. omega arith
+      go : (x : Option Frame) → frame_of l ≡ x → (carried_by s f l x).reply.number ≢ 0x08
+      go (Some (Frame.Write h n)) e = stored_uncut (write h (line_words l n)) (data_words l n (frame_digits l (λ z. let y : ◌≡◌ {A = ℕ} 0 1 = cc in omega arith)))
+      go (Some (Frame.Read h)) e = read_uncut (read_of (area_of s.shape) h (run_of s.shape f))
+      go (Some (Frame.Delete h)) e = stored_uncut (delete h) tt
+      go (Some (Frame.List mask pattern)) e = list_uncut s.shape mask pattern (search_of (area_of s.shape) mask pattern 0 (run_of s.shape f))
+      go (Some Frame.Recover) e = stored_uncut recover tt
+      go (Some (Frame.Power k)) e = λ z. omega arith
+      go (Some (Frame.Format n size)) e = format_cases (λ x. x.reply.number ≢ 0x08) s f l n size (λ h. format_uncut s f (record { pages = n; size = size_named size }) h) (λ z. omega arith)
+      go None e = λ z. omega arith
 
 -- ---- a whole session
 -- each of its answers

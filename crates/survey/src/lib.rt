@@ -205,8 +205,7 @@ fn seek_room(flash: &[u32], area: Area, asked: Asked, map: &mut [u64; 16]) -> So
         };
         summary = 'entries: loop {
             let stop = walk.stop;
-            let words = pages::length_at(page, stop);
-            if words == 0 {
+            let Some(words) = pages::length_at(page, stop) else {
                 let summary = summary_on(page, area, asked, summary, index, walk);
                 if stop + asked.needed <= last {
                     break 'pages Sought {
@@ -216,7 +215,7 @@ fn seek_room(flash: &[u32], area: Area, asked: Asked, map: &mut [u64; 16]) -> So
                     };
                 }
                 break 'entries summary;
-            }
+            };
             walk = walk_on(page, base, asked.handle, map, walk, words);
         };
         index += 1;

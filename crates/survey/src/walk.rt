@@ -101,11 +101,8 @@ pub fn walk_page(
         found,
         seen,
     };
-    loop {
-        let words = pages::length_at(page, walk.stop);
-        if words == 0 {
-            return walk;
-        }
+    while let Some(words) = pages::length_at(page, walk.stop) {
         walk = walk_on(page, base, handle, map, walk, words);
     }
+    walk
 }

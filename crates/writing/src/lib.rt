@@ -70,11 +70,7 @@ fn find_ahead(run: &[u32], start: usize, handle: u32) -> Option<Found>
         return None;
     }
     let mut at = start;
-    loop {
-        let length = pages::length_at(run, at);
-        if length == 0 {
-            return None;
-        }
+    while let Some(length) = pages::length_at(run, at) {
         if pages::handle_of(run[at]) == handle {
             return Some(Found {
                 place: at,
@@ -83,6 +79,7 @@ fn find_ahead(run: &[u32], start: usize, handle: u32) -> Option<Found>
         }
         at += length;
     }
+    None
 }
 
 // The first live entry of a handle in a page.

@@ -3,5 +3,5 @@ use Rattle.std.proofs.Common.{rules}
 use Rattle.entries.specs.Ahead.{cursors}
 use Rattle.entries.proofs.settle.Goals as goal
 
-pub loop-area-preserved : goal.loop-area-preserved
-loop-area-preserved c = search (rules, cursors)
+pub loop-length-preserved : goal.loop-length-preserved
+loop-length-preserved c = search (rules, cursors, c.in_default.ensures.none)

@@ -3,8 +3,8 @@ use Rattle.std.proofs.Common.{min, ◌≤◌}
 use Rattle.entries.specs.Ahead.{onward, Settling}
 use Rattle.entries.proofs.settle.Given as goal
 
-abbrev pub invariant-loop-area : goal.invariant-loop-area
-invariant-loop-area l = Settling l.area l.flash (onward l.area l.flash l.place-2 l.end-2 l.left-2) l.place l.end l.left × (min l.place-2 l.end-2 ≤ l.place) × (min l.place-2 l.end-2 ≤ l.end)
+abbrev pub invariant-loop-length : goal.invariant-loop-length
+invariant-loop-length l = Settling l.area l.flash (onward l.area l.flash l.place-2 l.end-2 l.left-2) l.place l.end l.left × (min l.place-2 l.end-2 ≤ l.place) × (min l.place-2 l.end-2 ≤ l.end)
 
-abbrev pub decreases-loop-area : goal.decreases-loop-area
-decreases-loop-area l = l.left
+abbrev pub decreases-loop-length : goal.decreases-loop-length
+decreases-loop-length l = l.left

@@ -6,11 +6,11 @@ use Rattle.pages.proofs.live_words.Goals as goal
 pub returns-then-page-lt2 : goal.returns-then-page-lt2
 returns-then-page-lt2 c = search (rules, counts)
 
-pub loop-at-init : goal.loop-at-init
-loop-at-init c = search (rules, counts)
+pub loop-words-init : goal.loop-words-init
+loop-words-init c = search (rules, counts)
 
-pub returns-then-words-eq0 : goal.returns-then-words-eq0
-returns-then-words-eq0 c = search (rules, counts)
+pub loop-words-preserved : goal.loop-words-preserved
+loop-words-preserved c = search (rules, counts, c.in-Some.ensures.some)
 
-pub loop-at-preserved : goal.loop-at-preserved
-loop-at-preserved c = search (rules, counts)
+pub returns : goal.returns
+returns c = search (rules, counts, c.in_default.ensures.none)

@@ -3,8 +3,8 @@ use Rattle.std.proofs.Common.{length, ◌-◌}
 use Rattle.pages.specs.Steps.{Walking}
 use Rattle.pages.proofs.stop.Given as goal
 
-abbrev pub invariant-loop-at : goal.invariant-loop-at
-invariant-loop-at l = Walking l.page l.at
+abbrev pub invariant-loop-length : goal.invariant-loop-length
+invariant-loop-length l = Walking l.page l.at
 
-abbrev pub decreases-loop-at : goal.decreases-loop-at
-decreases-loop-at l = length l.page - l.at
+abbrev pub decreases-loop-length : goal.decreases-loop-length
+decreases-loop-length l = length l.page - l.at

@@ -1,10 +1,10 @@
 -- `last_live` goes from entry to entry, and looks at the last one's handle. Assumes nothing.
 use Rattle.std.proofs.Common.{length, ◌-◌}
-use Rattle.recovery.specs.Mending.{Passing}
+use Rattle.recovery.specs.Last.{Remembering}
 use Rattle.recovery.proofs.last_live.Given as goal
 
-abbrev pub invariant-loop-next : goal.invariant-loop-next
-invariant-loop-next l = Passing l.part l.start l.place l.length l.at
+abbrev pub invariant-loop-length : goal.invariant-loop-length
+invariant-loop-length l = Remembering l.part l.start l.last l.at
 
-abbrev pub decreases-loop-next : goal.decreases-loop-next
-decreases-loop-next l = length l.part - l.at
+abbrev pub decreases-loop-length : goal.decreases-loop-length
+decreases-loop-length l = length l.part - l.at

@@ -10,16 +10,16 @@ pub entries-init : goal.entries-init
 entries-init c = search (rules, seeks)
 
 pub summary_on-summary-requires : goal.summary_on-summary-requires
-summary_on-summary-requires c = search (rules, seeks)
+summary_on-summary-requires c = search (rules, seeks, c.in_default.ensures.none)
 
 pub entries-preserved : goal.entries-preserved
-entries-preserved c = search (rules, seeks)
+entries-preserved c = search (rules, seeks, c.in-Some.ensures.some)
 
 pub pages-preserved : goal.pages-preserved
-pages-preserved c = search (rules, seeks)
+pages-preserved c = search (rules, seeks, c.in_default.ensures.none)
 
 pub returns-then-area-index : goal.returns-then-area-index
 returns-then-area-index c = search (rules, seeks)
 
 pub returns-then-stop-asked : goal.returns-then-stop-asked
-returns-then-stop-asked c = search (rules, seeks)
+returns-then-stop-asked c = search (rules, seeks, c.in_default.ensures.none)

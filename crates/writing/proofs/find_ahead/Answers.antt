@@ -6,11 +6,11 @@ use Rattle.writing.proofs.find_ahead.Goals as goal
 pub returns-then-handle-eq0 : goal.returns-then-handle-eq0
 returns-then-handle-eq0 c = search (rules, seeks)
 
-pub returns-then-length-eq0 : goal.returns-then-length-eq0
-returns-then-length-eq0 c = search (rules, seeks)
+pub returns : goal.returns
+returns c = search (rules, seeks, c.in_default.ensures.none)
 
 pub returns-then-handle_of-handle : goal.returns-then-handle_of-handle
-returns-then-handle_of-handle c = (search (rules, seeks), search (rules, seeks))
+returns-then-handle_of-handle c = search (rules, seeks, c.in-Some.ensures.some)
 
-pub loop-start-preserved : goal.loop-start-preserved
-loop-start-preserved c = search (rules, seeks)
+pub loop-length-preserved : goal.loop-length-preserved
+loop-length-preserved c = search (rules, seeks, c.in-Some.ensures.some)

@@ -1,34 +1,25 @@
 -- `carry` goes by the frame. Assumes nothing.
 use Rattle.std.proofs.Common.{rules}
-use Rattle.frames.specs.Carrying.{dispatches}
+use Rattle.frames.specs.Carrying.{by_write, by_read, by_delete, by_list, by_recover, by_power, by_format}
 use Rattle.frames.proofs.carrying.carry.Goals as goal
 
-pub slice_bounds-words-end : goal.slice_bounds-words-end
-slice_bounds-words-end c = search (rules, dispatches)
-
-pub slice_bounds-carry_write-end : goal.slice_bounds-carry_write-end
-slice_bounds-carry_write-end c = search (rules, dispatches)
-
 pub returns-in-Write : goal.returns-in-Write
-returns-in-Write c = search (rules, dispatches)
+returns-in-Write c = by_write c.args.state c.args.flash.now c.args.line.now c.in-Some.ensures c.in-Write.is (search rules) c.carry_request.ensures
 
 pub returns-in-Read : goal.returns-in-Read
-returns-in-Read c = search (rules, dispatches)
+returns-in-Read c = by_read c.args.state c.args.flash.now c.args.line.now c.in-Some.ensures c.in-Read.is c.carry_read.ensures
 
 pub returns-in-Delete : goal.returns-in-Delete
-returns-in-Delete c = search (rules, dispatches)
+returns-in-Delete c = by_delete c.args.state c.args.flash.now c.args.line.now c.in-Some.ensures c.in-Delete.is c.carry_request-in-Delete.ensures
 
 pub returns-in-List : goal.returns-in-List
-returns-in-List c = search (rules, dispatches)
+returns-in-List c = by_list c.args.state c.args.flash.now c.args.line.now c.in-Some.ensures c.in-List.is c.carry_list.ensures
 
 pub returns-in-Recover : goal.returns-in-Recover
-returns-in-Recover c = search (rules, dispatches)
+returns-in-Recover c = by_recover c.args.state c.args.flash.now c.args.line.now c.in-Some.ensures c.in-Recover.is c.carry_request-in-Recover.ensures
 
 pub returns-in-Power : goal.returns-in-Power
-returns-in-Power c = search (rules, dispatches)
+returns-in-Power c = by_power c.args.state c.args.flash.now c.args.line.now c.in-Some.ensures c.in-Power.is c.powered.ensures
 
 pub returns-in-Format : goal.returns-in-Format
-returns-in-Format c = search (rules, dispatches)
-
-pub returns-in-Bad : goal.returns-in-Bad
-returns-in-Bad c = search (rules, dispatches)
+returns-in-Format c = by_format c.args.state c.args.flash.now c.args.line.now c.in-Some.ensures c.in-Format.is c.carry_format.ensures

@@ -3,11 +3,11 @@ use Rattle.std.proofs.Common.{rules}
 use Rattle.survey.specs.Walking.{tours}
 use Rattle.survey.proofs.walk.walk_page.Goals as goal
 
-pub loop-walk-init : goal.loop-walk-init
-loop-walk-init c = search (rules, tours)
+pub loop-words-init : goal.loop-words-init
+loop-words-init c = search (rules, tours)
 
-pub returns-then-words-eq0 : goal.returns-then-words-eq0
-returns-then-words-eq0 c = search (rules, tours)
+pub returns : goal.returns
+returns c = search (rules, tours, c.in_default.ensures.none)
 
-pub loop-walk-preserved : goal.loop-walk-preserved
-loop-walk-preserved c = search (rules, tours)
+pub loop-words-preserved : goal.loop-words-preserved
+loop-words-preserved c = search (rules, tours, c.in-Some.ensures.some)

@@ -3,8 +3,8 @@ use Rattle.std.proofs.Common.{length, ◌-◌}
 use Rattle.survey.specs.Walking.{Touring}
 use Rattle.survey.proofs.walk.walk_page.Given as goal
 
-abbrev pub invariant-loop-walk : goal.invariant-loop-walk
-invariant-loop-walk l = Touring l.page l.base l.handle l.initial.map l.initial.walk.found l.initial.walk.seen l.walk l.map
+abbrev pub invariant-loop-words : goal.invariant-loop-words
+invariant-loop-words l = Touring l.page l.base l.handle l.initial.map l.initial.walk.found l.initial.walk.seen l.walk l.map
 
-abbrev pub decreases-loop-walk : goal.decreases-loop-walk
-decreases-loop-walk l = length l.page - l.walk.stop
+abbrev pub decreases-loop-words : goal.decreases-loop-words
+decreases-loop-words l = length l.page - l.walk.stop
