@@ -16,7 +16,7 @@ use Rattle.rules.specs.declared.Recovery.TheVariants.{Committed}
 use Rattle.rules.specs.Words.{is_live, seal}
 use Rattle.rules.specs.Walk.{Item, items, stop}
 use Rattle.rules.specs.Areas.{R, page, kind, recovery, Entry, page_entries, entries, twice, find, data_of, map_of, live_words, damaged, ready}
-use Rattle.rules.specs.Refusals.{format_checks, recover_checks, write_checks, find_checks, Plan, refuse, list, outcome_of, Answer, Reading, Yielded}
+use Rattle.rules.specs.Refusals.{format_checks, recover_checks, write_checks, find_checks, Plan, refuse, list, outcome_of, Answer}
 use Rattle.rules.specs.Lists.{format_list, bare_if, delete_list, compact, room_page, compact_page, write_list, recover_list, Request, format, recover, write, delete, plan_of}
 use Rattle.rules.specs.Search.{read_of, bad_place, search_of}
 use Rattle.demands.specs.Terms.{Given, Fair, WriteStores, Typed, Change, Proper, handle_in, new_words, Map, changed, changed_all, WithinQuota, new_words_all, Holds, was_cut, run, recovered, Recovers, Tried, CarriedAll, ProperAll, AllDiffer, FineAll, blanks, Goods, written, layout, PageIs, RIs, laid, StandsAt, last_live, kept}

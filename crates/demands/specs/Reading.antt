@@ -17,7 +17,7 @@ use Rattle.rules.specs.declared.Refusal.TheVariants.{NotFound}
 use Rattle.rules.specs.Words.{header, special, is_live, seal}
 use Rattle.rules.specs.Walk.{Item, entry_length, codes, items}
 use Rattle.rules.specs.Areas.{base, page, Entry, placed, entries_from, entries, any_of, first_of, live_of, twice, find, data_of, map_of, ready}
-use Rattle.rules.specs.Refusals.{bad_handle, reading_place, reading_words, find_checks, Reading, Yielded}
+use Rattle.rules.specs.Refusals.{bad_handle, reading_place, reading_words, find_checks}
 use Rattle.rules.specs.Search.{place_of, data_length, read_of, next, bad_place, search_checks, search_of, wanted, is_at}
 use Rattle.rules.specs.Laws.{and_left, and_right, passed_checked, checked_passed}
 use Rattle.rules.specs.Places.{base_suc, length_page, page_in}
@@ -161,8 +161,7 @@ read_finds : {a : Area} {f : List ℕ} (h p n : ℕ) → Usable a f → read_of 
 read_finds {a} {f} h p n g q =
     let c = checked_passed Err (find_checks a f h) _ (Ok (record { place = p; words = n })) (λ m z. let y : ◌≡◌ {A = ℕ} 0 1 = cc in omega arith) q in
     let k = c.0.1 in
-    let e = found_some (find h (entries a f)) k.1.1.1.0 in
-    (
+    let e = found_some (find h (entries a f)) k.1.1.1.0 in (
       e.0,
       e.1,
       ap place_of (sym e.1) ∙ ap reading_place c.1,

@@ -1,8 +1,9 @@
 -- The area's entries from a cursor on, where entries lie in the run, and what a loop over them has come to: definitions and laws.
 -- Assumes nothing.
-use Rattle.std.specs.Prelude.{◌≡◌, refl, Bool, true, false, cond, not, get_or, take, drop, Option, Some, None, is_none, is_some}
+use Rattle.std.specs.Prelude.{◌≡◌, refl, Bool, true, false, cond, not, get_or, take, drop, Option, Some, None, is_none}
 use Rattle.std.proofs.Math.Path.{sym, ap}
-use Rattle.std.proofs.Common.{subst, ◌∙◌, ⊎_elim, take-take, get_or-take, eq-eqb, ne_eqb}
+use Rattle.std.proofs.Common.{subst, ◌∙◌, ⊎_elim, take-take, get_or-take, mod-lt, eq-eqb, ne_eqb, ◌&&◌, ◌||◌, eqb}
+use Rattle.std.proofs.Math.Bool.{and-false}
 use mathlib.Core.List.{List, [], ◌∷◌, ◌++◌}
 use Prim.Native.Nat.{ℕ, suc, zero, ◌+◌, ◌-◌, ◌≤◌, ◌<◌}
 use native.Mathlib.Omega.{arith}
@@ -10,13 +11,15 @@ use Rattle.std.proofs.Math.ListN.{length, length-take, length-drop}
 use Rattle.std.proofs.Math.Seq.{length-take-le, take-nil}
 use Rattle.flash.specs.Laws.{le_or_lt}
 use Rattle.rules.specs.declared.Area.{Area}
-use Rattle.rules.specs.Words.{handle_of}
-use Rattle.rules.specs.Walk.{walk_in, items}
+use Rattle.rules.specs.Words.{handle_of, length_of, is_live}
+use Rattle.rules.specs.Walk.{begins, walk_in, items}
 use Rattle.rules.specs.Areas.{base, Entry, placed, page_entries, entries_from, entries, any_of, first_of, live_of, find}
 use Rattle.rules.specs.Places.{Right, base_suc, base_zero, page_from, base_in}
-use Rattle.pages.specs.Steps.{length_at, walk_at, entries_at, entry_at, length_inside, entries_on, entries_end}
+use Rattle.pages.specs.Steps.{length_in, length_at, walk_at, entries_at, entry_at, length_inside, data_words_length, entries_on, entries_end}
 use Rattle.std.proofs.lemmas.Option.{same_Some}
-use Rattle.entries.specs.declared.Cursor.{Cursor}
+use Rattle.entries.specs.declared.walk.Cursor.{Cursor}
+use Rattle.entries.specs.declared.walk.Entries.{Entries}
+use Rattle.entries.specs.declared.walk.Header.{Header}
 use Rattle.rules.specs.declared.Found.{Found}
 
 -- ---- what is found
@@ -40,9 +43,25 @@ onward a f place end left = entries_at (take end f) place ++ entries_from a f le
 abbrev pub ahead : Area → List ℕ → Cursor → List Entry
 ahead a f c = onward a f c.place c.end c.left
 
--- the entry at a cursor
-unfoldable pub entry_of : List ℕ → Cursor → Entry
-entry_of f c = record { place = c.place; handle = handle_of (get_or f c.place 0); words = take (c.length - 1) (drop (suc c.place) (take c.end f)) }
+-- in front of the first one
+abbrev pub first_cursor : Area → Cursor
+first_cursor a = record { place = 2; end = a.words; left = a.pages - 1 }
+
+-- those that a walk has left
+abbrev pub left_of : Entries → List Entry
+left_of s = ahead s.area s.flash.now s.cursor
+
+-- the header of an entry
+abbrev pub header_of : Entry → Header
+header_of e = record { place = e.place; handle = e.handle; length = length e.words + 1 }
+
+-- of some entries the first has a header, and others are behind it
+pub record Heads (es : List Entry) (h : Header) (ds : List Entry) : Type 0 where
+  pub entry : Entry
+  pub header : header_of entry ≡ h
+  pub first : es ≡ entry ∷ ds
+  pub handle : h.handle < 65536
+  pub length : h.length < 65536
 
 -- the end of a page is that of the last but so many
 pub record Ends (a : Area) (f : List ℕ) (end left : ℕ) : Type 0 where
@@ -50,12 +69,33 @@ pub record Ends (a : Area) (f : List ℕ) (end left : ℕ) : Type 0 where
   pub place : end ≡ base a (a.pages - left)
   pub inside : end ≤ length f
 
--- a cursor stands at an entry, or behind the last one
+-- a cursor stands in a page of the area
 pub record Sound (a : Area) (f : List ℕ) (c : Cursor) : Type 0 where
   pub ends : Ends a f c.end c.left
-  pub entry : c.length ≡ length_at (take c.end f) c.place
-  pub fits : c.length ≤ c.end - c.place - 1
-  pub last : c.length ≡ 0 → c.left ≡ 0
+  pub within : c.place ≤ c.end
+
+-- a cursor was moved over the entry of a header
+pub record Passed (a : Area) (f : List ℕ) (c : Cursor) (h : Header) (d : Cursor) : Type 0 where
+  pub heads : Heads (ahead a f c) h (ahead a f d)
+  pub from : c.place ≤ h.place
+  pub behind : h.place < d.place
+
+-- a walk stands in a page of its area
+pub record Standing (s : Entries) : Type 0 where
+  pub right : Right s.area s.flash.now
+  pub sound : Sound s.area s.flash.now s.cursor
+
+-- a step of a walk gives the header of the first of the entries left, and leaves the others, or gives none where none is left
+abbrev pub Gives : Entries → Option Header → Entries → Type 0
+Gives s None t = (left_of s ≡ []) × (left_of t ≡ [])
+Gives s (Some h) t = Heads (left_of s) h (left_of t) × (s.cursor.place ≤ h.place) × (h.place < t.cursor.place)
+
+-- a walk over some entries of an area
+pub record Over (a : Area) (f : List ℕ) (es : List Entry) (s : Entries) : Type 0 where
+  pub area : s.area ≡ a
+  pub flash : s.flash.now ≡ f
+  pub standing : Standing s
+  pub left : left_of s ≡ es
 
 -- ---- laws of pages
 pub page_onward : (a : Area) (f : List ℕ) (i : ℕ) → base a i ≤ length f → page_entries a f i ≡ entries_at (take (base a i + a.words) f) (base a i + 2)
@@ -95,7 +135,7 @@ module _ {a : Area} {f : List ℕ} (r : Right a f) where
       let p : page_entries a f 0 ≡ entries_at (take a.words f) 2 = page_onward a f 0 (base_in r 0 (omega arith)) ∙ rw (w, t) in
       ap (λ (u : List Entry). u ++ entries_from a f n 1) (sym p)
 
-  first_onward : onward a f 2 a.words (a.pages - 1) ≡ entries a f
+  pub first_onward : onward a f 2 a.words (a.pages - 1) ≡ entries a f
   unfolding onward entries
   first_onward =
       let s = r.some_pages in
@@ -180,108 +220,103 @@ found_inside {a} {f} t e q r =
     let i = (first_inside t s.1 r).within in
     omega (arith, s.2, s.3)
 
--- ---- a cursor is moved on until it stands at an entry or behind the last one
-pub record Settling (a : Area) (f : List ℕ) (es : List Entry) (place end left : ℕ) : Type 0 where
-  pub ends : Ends a f end left
-  pub same : onward a f place end left ≡ es
+-- ---- a cursor is moved on to the page of the next entry, or to the last page
+pub record Turning (a : Area) (f : List ℕ) (c d : Cursor) : Type 0 where
+  pub sound : Sound a f d
+  pub same : ahead a f d ≡ ahead a f c
+  pub from : c.place ≤ d.place
 
--- it stands there
-pub record Settled (a : Area) (f : List ℕ) (es : List Entry) (c : Cursor) : Type 0 where
-  pub sound : Sound a f c
-  pub same : ahead a f c ≡ es
+pub turning_start : {a : Area} {f : List ℕ} {c : Cursor} → Sound a f c → Turning a f c c
+turning_start s = record { sound = s; same = refl; from = omega arith }
 
-pub settling_start : {a : Area} {f : List ℕ} {place end left : ℕ} → Ends a f end left → Settling a f (onward a f place end left) place end left
-settling_start e = record { ends = e; same = refl }
+-- an entry's length has 16 bits
+length_small : (ws : List ℕ) → length_in ws < 65536
+length_small [] = omega arith
+length_small (w ∷ ws) = go (begins w ws)
+  where
+    go : (t : Bool) → cond t (length_of w) 0 < 65536
+    go true = mod-lt w (omega arith)
+    go false = omega arith
 
-module _ {a : Area} {f g : List ℕ} {es : List Entry} {place end left n : ℕ} (s : Settling a f es place end left) (w : g ≡ take end f) (q : n ≡ length_at g place) where
-  entry : n ≡ length_at (take end f) place
-  entry = q ∙ ap (λ (u : List ℕ). length_at u place) w
+module _ {a : Area} {f g : List ℕ} {c d : Cursor} {n : ℕ} (s : Turning a f c d) (w : g ≡ take d.end f) (q : n ≡ length_at g d.place) where
+  length_is : n ≡ length_at (take d.end f) d.place
+  length_is = q ∙ ap (λ (u : List ℕ). length_at u d.place) w
 
-  pub settling_on : Right a f → n ≡ 0 → (left ≡ 0 → ⊥) → Settling a f es (end + 2) (end + a.words) (left - 1)
-  unfolding onward
-  settling_on r z y =
-      record { ends = ends_next r s.ends y; same = sym (onward_next r end left s.ends y) ∙ rw (entries_end (take end f) place entry z) at s.same }
-
-  settled_by : (n ≡ 0 → left ≡ 0) → Settled a f es (record { place = place; length = n; end = end; left = left })
-  settled_by l =
-      let i = s.ends.inside in
-      let m : length (take end f) ≡ end = length-take-le end f i in
-      record { sound = record { ends = s.ends; entry = entry; fits = omega (arith, entry, length_inside (take end f) place); last = l }; same = s.same }
-
-  pub settled_entry : (n ≡ 0 → ⊥) → Settled a f es (record { place = place; length = n; end = end; left = left })
-  settled_entry z = settled_by (λ q. absurd (z q))
-
-  pub settled_last : left ≡ 0 → Settled a f es (record { place = place; length = n; end = end; left = left })
-  settled_last z = settled_by (λ q. z)
-
--- ---- the entry at a cursor, and those behind it
-module _ {a : Area} {f : List ℕ} {c : Cursor} (s : Sound a f c) where
-  pub ahead_end : c.length ≡ 0 → ahead a f c ≡ []
-  unfolding onward
-  ahead_end z = let l = s.last z in rw (l, entries_end (take c.end f) c.place s.entry z)
-
-  module _ (z : c.length ≡ 0 → ⊥) where
-    entry_at_place : entry_at (take c.end f) c.place c.length ≡ entry_of f c
-    unfolding entry_at entry_of
-    entry_at_place = let i = s.fits in rw (get_or-take c.end f c.place 0 (omega arith))
-
-    pub ahead_on : ahead a f c ≡ entry_of f c ∷ onward a f (c.place + c.length) c.end c.left
+  -- the page has no entry left
+  module _ (z : n ≡ 0) where
+    pub turning_on : Right a f → (d.left ≡ 0 → ⊥) → Turning a f c (record { place = d.end + 2; end = d.end + a.words; left = d.left - 1 })
     unfolding onward
-    ahead_on = rw (entries_on (take c.end f) c.place c.length s.entry z, entry_at_place)
+    turning_on r y =
+        let i = s.sound.within in
+        let j = r.wide in
+        let k = s.from in
+        record {
+          sound = record { ends = ends_next r s.sound.ends y; within = omega arith };
+          same = sym (onward_next r d.end d.left s.sound.ends y) ∙ rw (entries_end (take d.end f) d.place length_is z) at s.same;
+          from = omega arith;
+        }
 
-    -- its data words
-    pub entry_words : length (entry_of f c).words ≡ c.length - 1
-    unfolding entry_of
-    entry_words =
-        let i = s.ends.inside in
-        let j = s.fits in
-        omega (arith, length-take (c.length - 1) (drop (suc c.place) (take c.end f)), length-drop (suc c.place) (take c.end f), length-take-le c.end f i)
+    pub turned_none : d.left ≡ 0 → ahead a f d ≡ []
+    unfolding onward
+    turned_none y = rw (y, entries_end (take d.end f) d.place length_is z)
 
--- ---- the entries behind the one at a cursor
-abbrev pub behind : Area → List ℕ → Cursor → List Entry
-behind a f c = onward a f (c.place + c.length) c.end c.left
+    pub turned_all : d.left ≡ 0 → ahead a f c ≡ []
+    turned_all y = sym s.same ∙ turned_none y
 
-pub settled_first : {a : Area} {f : List ℕ} {c : Cursor} → Settled a f (onward a f 2 a.words (a.pages - 1)) c → Right a f → Settled a f (entries a f) c
-settled_first s r = record { sound = s.sound; same = s.same ∙ first_onward r }
+  -- it has one
+  module _ (z : n ≡ 0 → ⊥) where
+    abbrev next : Cursor
+    next = record { place = d.place + n; end = d.end; left = d.left }
 
--- with each step there are fewer
-pub fewer : {a : Area} {f : List ℕ} {c d : Cursor} → Settled a f (behind a f c) d → Sound a f c → (c.length ≡ 0 → ⊥) → length (ahead a f d) < length (ahead a f c)
-fewer w s z = rw (w.same, ahead_on s z) (omega arith)
+    fits : n ≤ d.end - d.place - 1
+    fits = omega (arith, length_is, length_inside (take d.end f) d.place, length-take-le d.end f s.sound.ends.inside)
 
-pub ruleset cursors = (first_ends, settling_start, settling_on, settled_entry, settled_last, settled_first)
+    pub turned_sound : Sound a f next
+    turned_sound = let i = fits in let j = s.sound.within in record { ends = s.sound.ends; within = omega arith }
 
--- ---- a search for the first entry that passes a test has come to a cursor, o being what it will find
-pub record Finding (t : Entry → Bool) (a : Area) (f : List ℕ) (o : Option Entry) (c : Cursor) : Type 0 where
-  pub sound : Sound a f c
-  pub same : first_of t (ahead a f c) ≡ o
+    pub turned_passed : {k : ℕ} → k ≡ handle_of (get_or f d.place 0) → k < 65536 → Passed a f c (record { place = d.place; handle = k; length = n }) next
+    unfolding onward entry_at length_at
+    turned_passed {k} e small =
+        let i = fits in
+        let j = s.from in
+        let p = take d.end f in
+        let l : length_at p d.place < 65536 = length_small (drop d.place p) in
+        let h : handle_of (get_or p d.place 0) ≡ k = rw (get_or-take d.end f d.place 0 (omega arith)) (sym e) in
+        record {
+          heads = record {
+            entry = entry_at p d.place n;
+            header = rw (h, data_words_length p d.place n length_is z);
+            first = sym s.same ∙ rw (entries_on p d.place n length_is z);
+            handle = small;
+            length = omega (arith, length_is);
+          };
+          from = j;
+          behind = omega arith;
+        }
 
-pub finding_start : {t : Entry → Bool} {a : Area} {f : List ℕ} {es : List Entry} {c : Cursor} → Settled a f es c → Finding t a f (first_of t es) c
-finding_start {t} s = record { sound = s.sound; same = ap (first_of t) s.same }
+pub first_sound : {a : Area} {f : List ℕ} → Right a f → Sound a f (first_cursor a)
+first_sound r = let j = r.wide in record { ends = first_ends r; within = omega arith }
 
-pub finding_here : {t : Entry → Bool} {a : Area} {f : List ℕ} {c : Cursor} → Sound a f c → Finding t a f (first_of t (ahead a f c)) c
-finding_here s = record { sound = s; same = refl }
+pub first_over : {a : Area} {f : List ℕ} {s : Entries} {c : Cursor} → Right a f → s.area ≡ a → s.flash.now ≡ f → s.cursor ≡ c → c ≡ first_cursor a → Over a f (entries a f) s
+first_over r x y z w = record { area = x; flash = y; standing = rw (x, y, z, w) (record { right = r; sound = first_sound r }); left = rw (x, y, z, w) (first_onward r) }
 
-pub finding_end : {t : Entry → Bool} {a : Area} {f : List ℕ} {o : Option Entry} {c : Cursor} → Finding t a f o c → c.length ≡ 0 → None ≡ o
-finding_end {t} s z = ap (first_of t) (sym (ahead_end s.sound z)) ∙ s.same
+pub ruleset cursors = (turning_start, turning_on, turned_none, turned_all, turned_sound, turned_passed)
 
-module _ {t : Entry → Bool} {a : Area} {f : List ℕ} {o : Option Entry} {c : Cursor} (s : Finding t a f o c) (z : c.length ≡ 0 → ⊥) where
-  here : cond (t (entry_of f c)) (Some (entry_of f c)) (first_of t (behind a f c)) ≡ o
-  here = ap (first_of t) (sym (ahead_on s.sound z)) ∙ s.same
+-- ---- a search for the first entry that passes a test has come to those left, o being what it will find
+pub record Finding (t : Entry → Bool) (o : Option Entry) (es : List Entry) : Type 0 where
+  pub same : first_of t es ≡ o
 
-  pub finding_on : {d : Cursor} → Settled a f (behind a f c) d → t (entry_of f c) ≡ false → Finding t a f o d
-  finding_on d q = record { sound = d.sound; same = ap (first_of t) d.same ∙ rw q at here }
+module _ {t : Entry → Bool} {o : Option Entry} {es ds : List Entry} {h : Header} (s : Finding t o es) (x : Heads es h ds) where
+  here : cond (t x.entry) (Some x.entry) (first_of t ds) ≡ o
+  here = ap (first_of t) (sym x.first) ∙ s.same
 
-  pub finding_found : t (entry_of f c) ≡ true → Some (entry_of f c) ≡ o
+  pub finding_on : t x.entry ≡ false → Finding t o ds
+  finding_on q = record { same = rw q at here }
+
+  pub finding_found : t x.entry ≡ true → Some x.entry ≡ o
   finding_found q = rw q at here
 
-  pub found_at : t (entry_of f c) ≡ true → Some (record { place = c.place; words = c.length - 1 }) ≡ found_of o
-  unfolding entry_of
-  found_at q = ap (λ (n : ℕ). Some (record { place = c.place; words = n })) (sym (entry_words s.sound z)) ∙ ap found_of (finding_found q)
-
-pub ends_none : {t : Entry → Bool} {a : Area} {f : List ℕ} {o : Option Entry} {c : Cursor} → Finding t a f o c → c.length ≡ 0 → None ≡ found_of o
-ends_none s z = ap found_of (finding_end s z)
-
--- whether an entry passes
+-- ---- whether an entry passes
 pub any_first : (t : Entry → Bool) (es : List Entry) → any_of t es ≡ not (is_none (first_of t es))
 any_first t [] = refl
 any_first t (e ∷ es) = go (t e) refl (any_first t es)
@@ -290,24 +325,7 @@ any_first t (e ∷ es) = go (t e) refl (any_first t es)
     go true q r = rw q
     go false q r = rw q r
 
--- whether an entry was found
-pub found_any : {r : Option Found} (k : ℕ) (es : List Entry) → r ≡ found_of (find k es) → is_some r ≡ any_of (live_of k) es
-found_any k es e = rw e (go (find k es) ∙ sym (any_first (live_of k) es))
-  where
-    go : (o : Option Entry) → is_some (found_of o) ≡ not (is_none o)
-    go None = refl
-    go (Some e) = refl
-
--- ---- the tests, by what is read at a cursor
-pub live_hit : {k : ℕ} (h : ℕ) (f : List ℕ) (c : Cursor) → (h ≡ 0 → ⊥) → k ≡ handle_of (get_or f c.place 0) → k ≡ h → live_of h (entry_of f c) ≡ true
-unfolding entry_of
-live_hit h f c z e q = rw (← e, q, ne_eqb h 0 z, eq-eqb h h refl)
-
-pub live_miss : {k : ℕ} (h : ℕ) (f : List ℕ) (c : Cursor) → (h ≡ 0 → ⊥) → k ≡ handle_of (get_or f c.place 0) → (k ≡ h → ⊥) → live_of h (entry_of f c) ≡ false
-unfolding entry_of
-live_miss {k} h f c z e q = rw (← e, ne_eqb h 0 z, ne_eqb k h q)
-
--- an invalidated entry is none of its handle's live ones
+-- an entry is none of the live ones of handle 0000
 zero_none : (es : List Entry) → None ≡ find 0 es
 zero_none [] = refl
 zero_none (e ∷ es) = zero_none es
@@ -315,4 +333,33 @@ zero_none (e ∷ es) = zero_none es
 pub find_dead : (h : ℕ) (es : List Entry) → h ≡ 0 → None ≡ found_of (find h es)
 find_dead h es z = rw z (ap found_of (zero_none es))
 
-pub ruleset finds = (fewer, finding_start, finding_here, finding_on, found_at, ends_none, live_hit, live_miss, find_dead)
+pub any_dead : (h : ℕ) (es : List Entry) → h ≡ 0 → false ≡ any_of (live_of h) es
+any_dead h es z = sym (any_first (live_of h) es ∙ rw z (ap (λ (o : Option Entry). not (is_none o)) (sym (zero_none es))))
+
+-- the entries left have a live one of a handle just if all had
+pub record Living (k : ℕ) (es ds : List Entry) : Type 0 where
+  pub same : any_of (live_of k) ds ≡ any_of (live_of k) es
+
+pub living_start : {k : ℕ} {es : List Entry} → Living k es es
+living_start = record { same = refl }
+
+module _ {k : ℕ} {es ds us : List Entry} {h : Header} (s : Living k es ds) (x : Heads ds h us) (z : k ≡ 0 → ⊥) where
+  abbrev e : Entry
+  e = x.entry
+
+  its : e.handle ≡ h.handle
+  its = ap (λ (u : Header). u.handle) x.header
+
+  living : (is_live k && eqb e.handle k) || any_of (live_of k) us ≡ any_of (live_of k) es
+  living = ap (any_of (live_of k)) (sym x.first) ∙ s.same
+
+  pub living_here : h.handle ≡ k → true ≡ any_of (live_of k) es
+  living_here q = rw (ne_eqb k 0 z, its, eq-eqb h.handle k q) at living
+
+  pub living_on : (h.handle ≡ k → ⊥) → Living k es us
+  living_on q = record { same = rw (its, ne_eqb h.handle k q, and-false (is_live k)) at living }
+
+pub living_end : {k : ℕ} {es ds : List Entry} → Living k es ds → ds ≡ [] → false ≡ any_of (live_of k) es
+living_end {k} s z = ap (any_of (live_of k)) (sym z) ∙ s.same
+
+pub ruleset lives = (any_dead, living_start, living_here, living_on, living_end)

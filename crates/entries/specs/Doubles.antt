@@ -1,8 +1,8 @@
 -- The stores that drop all but the last live entry of a handle, from what a loop over the entries has come to: laws. A store in front of a
 -- cursor changes nothing of what is ahead of it. Assumes nothing.
-use Rattle.std.specs.Prelude.{◌≡◌, List, [], ◌∷◌, ◌++◌, Bool, not, ◌&&◌, ◌||◌, get_or, take, drop, eqb}
+use Rattle.std.specs.Prelude.{◌≡◌, List, [], ◌∷◌, ◌++◌, Bool, not, ◌&&◌, ◌||◌, take, drop, eqb}
 use Rattle.std.proofs.Math.Path.{refl, sym, ap}
-use Rattle.std.proofs.Common.{◌∙◌, true≢false, ⊎_elim, arith, mod-lt, drop-drop, drop-set-lt, eq-eqb, ne_eqb, Option, Some, None, Fits}
+use Rattle.std.proofs.Common.{◌∙◌, true≢false, arith, drop-drop, drop-set-lt, eq-eqb, ne_eqb, Option, Some, None, Fits}
 use Rattle.std.proofs.Math.Bool.{true, false, cond}
 use Prim.Native.Nat.{ℕ, suc, zero, ◌+◌, ◌-◌, ◌≤◌, ◌<◌}
 use Rattle.std.proofs.Math.ListN.{length}
@@ -12,15 +12,14 @@ use Rattle.flash.specs.declared.Power.{Power}
 use Rattle.flash.specs.Stores.{Store, put, stored, made, made_first, Ran}
 use Rattle.flash.specs.Laws.{le_or_lt, ran_none, ran_append, ran_length}
 use Rattle.rules.specs.declared.Area.{Area}
-use Rattle.rules.specs.Words.{handle_of, length_of}
-use Rattle.rules.specs.Walk.{begins}
 use Rattle.rules.specs.Areas.{base, page, Entry, entries_from, entries, any_of, live_of, twice}
 use Rattle.rules.specs.Lists.{bare, supersede}
 use Rattle.rules.specs.Laws.{nor_left, nor_right}
 use Rattle.rules.specs.Places.{Right, base_suc, right_ran}
-use Rattle.pages.specs.Steps.{length_in, length_at, walk_at, entries_at}
-use Rattle.entries.specs.declared.Cursor.{Cursor}
-use Rattle.entries.specs.Ahead.{onward, ahead, behind, entry_of, Sound, Settled, drop_cut, ahead_end, ahead_on, entry_words}
+use Rattle.pages.specs.Steps.{walk_at, entries_at}
+use Rattle.entries.specs.declared.walk.Cursor.{Cursor}
+use Rattle.entries.specs.declared.walk.Header.{Header}
+use Rattle.entries.specs.Ahead.{onward, ahead, first_cursor, Sound, Passed, drop_cut, first_onward, first_sound}
 use Rattle.entries.specs.Noting.{beside}
 use Rattle.entries.specs.Repeats.{twice_in}
 use Rattle.entries.specs.Sweeping.{live_twice, windowed_start, windowed_aside}
@@ -76,26 +75,11 @@ module _ {f g : List ℕ} {n : ℕ} (k : Kept f g n) where
 
 module _ {a : Area} {f g : List ℕ} {c : Cursor} (s : Sound a f c) (k : Kept f g c.place) where
   sound_kept : Sound a g c
-  unfolding length_at
-  sound_kept =
-      let e = s.ends in
-      record {
-        ends = record { behind = e.behind; place = e.place; inside = rw k.long e.inside };
-        entry = s.entry ∙ ap length_in (sym (cut_kept k c.end));
-        fits = s.fits;
-        last = s.last;
-      }
-
-  rest_kept : entries_from a g c.left (a.pages - c.left) ≡ entries_from a f c.left (a.pages - c.left)
-  rest_kept =
-      ⊎_elim
-      (λ (q : 1 ≤ c.length). pages_kept k a c.left (a.pages - c.left) (omega (arith, s.fits, s.ends.place)))
-      (λ (q : c.length < 1). let z : c.left ≡ 0 = s.last (omega arith) in rw z)
-      (le_or_lt 1 c.length)
+  sound_kept = let e = s.ends in record { ends = record { behind = e.behind; place = e.place; inside = rw k.long e.inside }; within = s.within }
 
   ahead_kept : ahead a g c ≡ ahead a f c
   unfolding onward entries_at walk_at
-  ahead_kept = rw (cut_kept k c.end, rest_kept)
+  ahead_kept = rw (cut_kept k c.end, pages_kept k a c.left (a.pages - c.left) (omega (arith, s.within, s.ends.place)))
 
 -- ---- the doubles before a cursor have been dropped: whatever the stores for what is ahead lead to, those for all entries lead to. It may be
 -- known that one handle alone is live twice
@@ -105,76 +89,74 @@ pub record Dropping (o : Option ℕ) (a : Area) (p₀ : Power) (f₀ : List ℕ)
   pub alone : (k : ℕ) → o ≡ Some k → twice_in (beside k) (ahead a f c) ≡ false
   pub end : (r : Power) (h : List ℕ) → Ran (supersede (ahead a f c)) p f r h → Ran (supersede (entries a f₀)) p₀ f₀ r h
 
-pub dropping_start : {o : Option ℕ} {a : Area} {p : Power} {f : List ℕ} {c : Cursor} → Settled a f (entries a f) c → Right a f → ((k : ℕ) → o ≡ Some k → twice_in (beside k) (entries a f) ≡ false)
+pub dropping_start : {o : Option ℕ} {a : Area} {p : Power} {f : List ℕ} {c : Cursor} → c ≡ first_cursor a → Right a f → ((k : ℕ) → o ≡ Some k → twice_in (beside k) (entries a f) ≡ false)
     → Dropping o a p f c p f
-dropping_start s r n = record { right = r; sound = s.sound; alone = λ k e. rw s.same (n k e); end = λ q h x. rw s.same at x }
+dropping_start s r n =
+    let e = first_onward r in
+    rw s (record { right = r; sound = first_sound r; alone = λ k i. rw e (n k i); end = λ q h x. rw e at x })
 
-pub dropping_end : {o : Option ℕ} {a : Area} {p₀ p : Power} {f₀ f : List ℕ} {c : Cursor} → Dropping o a p₀ f₀ c p f → c.length ≡ 0 → Ran (supersede (entries a f₀)) p₀ f₀ p f
-dropping_end {p = p} {f = f} s z = s.end p f (rw (ahead_end s.sound z) (ran_none p f))
+pub dropping_end : {o : Option ℕ} {a : Area} {p₀ p : Power} {f₀ f : List ℕ} {c : Cursor} → Dropping o a p₀ f₀ c p f → ahead a f c ≡ [] → Ran (supersede (entries a f₀)) p₀ f₀ p f
+dropping_end {p = p} {f = f} s z = s.end p f (rw z (ran_none p f))
 
--- an entry's length can be stored
-length_small : (ws : List ℕ) → length_in ws < 65536
-length_small [] = omega arith
-length_small (w ∷ ws) = go (begins w ws)
-  where
-    go : (t : Bool) → cond t (length_of w) 0 < 65536
-    go true = mod-lt w (omega arith)
-    go false = omega arith
+pub length_stored : (n : ℕ) → n < 65536 → Fits w32 n
+length_stored n l = record { fits = omega arith }
 
-pub length_stored : {a : Area} {f : List ℕ} {c : Cursor} → Sound a f c → Fits w32 c.length
-unfolding length_at
-length_stored {f = f} {c = c} s = record { fits = omega (arith, s.entry, length_small (drop c.place (take c.end f))) }
-
-module _ {o : Option ℕ} {a : Area} {p₀ p q : Power} {f₀ f g : List ℕ} {c d : Cursor} (s : Dropping o a p₀ f₀ c p f) (w : Settled a f (behind a f c) d)
-    (b : c.place < d.place) (x : Ran (put_if (drops o (handle_of (get_or f c.place 0)) (ahead a f d)) c.place c.length) p f q g) (z : c.length ≡ 0 → ⊥) where
+module _ {o : Option ℕ} {a : Area} {p₀ p q : Power} {f₀ f g : List ℕ} {c d : Cursor} {e : Header} (s : Dropping o a p₀ f₀ c p f) (w : Sound a f d) (y : Passed a f c e d)
+    (x : Ran (put_if (drops o e.handle (ahead a f d)) e.place e.length) p f q g) where
   abbrev h : ℕ
-  h = handle_of (get_or f c.place 0)
+  h = e.handle
 
   abbrev t : Bool
   t = drops o h (ahead a f d)
 
   kept : Kept f g d.place
-  kept = record { long = ran_length x; words = ran_kept t c.place c.length d.place x b }
+  kept = record { long = ran_length x; words = ran_kept t e.place e.length d.place x y.behind }
 
-  same : ahead a g d ≡ behind a f c
-  same = ahead_kept w.sound kept ∙ w.same
+  same : ahead a g d ≡ ahead a f d
+  same = ahead_kept w kept
 
   -- with each step there are fewer
   pub dropping_fewer : length (ahead a g d) < length (ahead a f c)
-  dropping_fewer = rw (same, ahead_on s.sound z) (omega arith)
+  dropping_fewer = rw (same, y.heads.first) (omega arith)
 
-  here : (k : ℕ) → o ≡ Some k → (not (eqb h k) && any_of (live_of h) (behind a f c)) || twice_in (beside k) (behind a f c) ≡ false
-  unfolding entry_of
-  here k e = rw (ahead_on s.sound z) at (s.alone k e)
+  its : y.heads.entry.handle ≡ h
+  its = ap (λ (u : Header). u.handle) y.heads.header
+
+  here : (k : ℕ) → o ≡ Some k → (not (eqb h k) && any_of (live_of h) (ahead a f d)) || twice_in (beside k) (ahead a f d) ≡ false
+  here k i = rw its at (rw y.heads.first at (s.alone k i))
 
   -- a handle that is not looked for is not live behind
-  looked : t ≡ any_of (live_of h) (behind a f c)
-  looked = rw w.same (go o refl)
+  looked : t ≡ any_of (live_of h) (ahead a f d)
+  looked = go o refl
     where
       none_other : (i j n : Bool) → (not i && j) || n ≡ false → i && j ≡ j
       none_other true j n y = refl
       none_other false true n y = absurd (true≢false y)
       none_other false false n y = refl
 
-      go : (u : Option ℕ) → o ≡ u → drops u h (behind a f c) ≡ any_of (live_of h) (behind a f c)
-      go None e = refl
-      go (Some k) e = none_other (eqb h k) (any_of (live_of h) (behind a f c)) (twice_in (beside k) (behind a f c)) (here k e)
+      go : (u : Option ℕ) → o ≡ u → drops u h (ahead a f d) ≡ any_of (live_of h) (ahead a f d)
+      go None i = refl
+      go (Some k) i = none_other (eqb h k) (any_of (live_of h) (ahead a f d)) (twice_in (beside k) (ahead a f d)) (here k i)
 
-  stores_here : supersede (ahead a f c) ≡ put_if t c.place c.length ++ supersede (behind a f c)
-  unfolding entry_of
-  stores_here = ap supersede (ahead_on s.sound z) ∙ rw (sym looked) (go t)
+  stores_here : supersede (ahead a f c) ≡ put_if t e.place e.length ++ supersede (ahead a f d)
+  stores_here =
+      let l : any_of (live_of y.heads.entry.handle) (ahead a f d) ≡ t = rw its (sym looked) in
+      ap supersede y.heads.first ∙ rw l (go t)
     where
-      go : (b : Bool) → cond b (bare (entry_of f c) ∷ supersede (behind a f c)) (supersede (behind a f c)) ≡ put_if b c.place c.length ++ supersede (behind a f c)
-      go true = let n : length (entry_of f c).words + 1 ≡ c.length = omega (arith, entry_words s.sound z) in rw n
+      bare_is : bare y.heads.entry ≡ put e.place e.length
+      bare_is = ap (λ (u : Header). put u.place u.length) y.heads.header
+
+      go : (b : Bool) → cond b (bare y.heads.entry ∷ supersede (ahead a f d)) (supersede (ahead a f d)) ≡ put_if b e.place e.length ++ supersede (ahead a f d)
+      go true = rw bare_is
       go false = refl
 
   pub dropping_on : Dropping o a p₀ f₀ d q g
   dropping_on =
       record {
         right = right_ran x s.right;
-        sound = sound_kept w.sound kept;
-        alone = λ k e. rw same (nor_right (not (eqb h k) && any_of (live_of h) (behind a f c)) (twice_in (beside k) (behind a f c)) (here k e));
-        end = λ r u y. s.end r u (rw stores_here (ran_append x (rw same at y)));
+        sound = sound_kept w kept;
+        alone = λ k i. rw same (nor_right (not (eqb h k) && any_of (live_of h) (ahead a f d)) (twice_in (beside k) (ahead a f d)) (here k i));
+        end = λ r u v. s.end r u (rw stores_here (ran_append x (rw same at v)));
       }
 
 pub ruleset drops_each = (put_wanted, put_unwanted, dropping_start, dropping_on, dropping_fewer, dropping_end, length_stored, ran_length)

@@ -26,8 +26,16 @@ has m h = is_set (get_or m (slot h) 0) (h % 64)
 unfoldable pub marked : List ℕ → Bool → ℕ → List ℕ
 marked m t h = cond t (set m (slot h) (bit_or (get_or m (slot h) 0) (2 ^ (h % 64)))) m
 
--- what is kept beside it
-unfoldable pub noted : List ℕ → Seen → Bool → ℕ → Seen
+-- what is kept beside it: the highest handle noted, and the windows in which one may have been noted twice
+pub record Kept : Type 0 where
+  pub top : ℕ
+  pub windows : ℕ
+
+abbrev pub kept : Seen → Kept
+kept n = record { top = n.top; windows = n.windows }
+
+-- that, once a handle is noted
+unfoldable pub noted : List ℕ → Kept → Bool → ℕ → Kept
 noted m s t h =
     cond t (cond (ltb s.top h) (record { top = h; windows = s.windows }) (cond (has m h) (record { top = s.top; windows = bit_or s.windows (2 ^ (h / 1024)) }) s)) s
 
@@ -39,7 +47,7 @@ abbrev pub all_marked : (ℕ → Bool) → List ℕ → List Entry → List ℕ
 all_marked t m [] = m
 all_marked t m (e ∷ es) = all_marked t (marked m (is_noted t e) e.handle) es
 
-abbrev pub all_noted : (ℕ → Bool) → List ℕ → Seen → List Entry → Seen
+abbrev pub all_noted : (ℕ → Bool) → List ℕ → Kept → List Entry → Kept
 all_noted t m s [] = s
 all_noted t m s (e ∷ es) = all_noted t (marked m (is_noted t e) e.handle) (noted m s (is_noted t e) e.handle) es
 
@@ -54,8 +62,11 @@ beside k h = not (eqb h k)
 abbrev pub blank_map : List ℕ
 blank_map = replicate 16 0
 
-abbrev pub nothing : Seen
+abbrev pub nothing : Kept
 nothing = record { top = 0; windows = 0 }
+
+abbrev pub unseen : Seen
+unseen = record { map = blank_map; top = 0; windows = 0 }
 
 -- ---- a handle is noted
 pub one_bit : (k : ℕ) → k < 64 → 1 * 2 ^ k % 18446744073709551616 ≡ 2 ^ k
@@ -65,7 +76,7 @@ pub unmarked : (t : Bool) (m : List ℕ) (h : ℕ) → t ≡ false → m ≡ mar
 unfolding marked
 unmarked t m h q = rw q
 
-pub unnoted : (t : Bool) (m : List ℕ) (h : ℕ) → t ≡ false → (s : Seen) → s ≡ noted m s t h
+pub unnoted : (t : Bool) (m : List ℕ) (h : ℕ) → t ≡ false → (s : Kept) → s ≡ noted m s t h
 unfolding noted
 unnoted t m h q s = rw q
 
@@ -73,7 +84,7 @@ pub mark_map : {b : ℕ} (m : List ℕ) (h : ℕ) → b ≡ 2 ^ (h % 64) → set
 unfolding marked
 mark_map m h e = rw e
 
-module _ {b : Bool} (m : List ℕ) (h : ℕ) (e : b ≡ has m h) (s : Seen) where
+module _ {b : Bool} (m : List ℕ) (h : ℕ) (e : b ≡ has m h) (s : Kept) where
   pub note_higher : s.top < h → record { top = h; windows = s.windows } ≡ noted m s true h
   unfolding noted
   note_higher l = rw (lt-ltb s.top h l)

@@ -1,26 +1,25 @@
 -- A walk that begins at the page that a place lies in: no entry of the pages before it lies at the place or behind it, and none ahead of a
 -- cursor lies in front of it. Laws. Assumes nothing.
-use Rattle.std.specs.Prelude.{◌≡◌, refl, Bool, true, false, not, ◌&&◌, length, take, ltb, eqb, None}
-use Rattle.std.proofs.Common.{sym, ◌∙◌, true≢false, ⊎_elim, div-mul-le_self, length-take-le, Fits}
+use Rattle.std.specs.Prelude.{◌≡◌, refl, Bool, false, length, take, None}
+use Rattle.std.proofs.Common.{sym, ◌∙◌, ⊎_elim, div-mul-le_self, length-take-le, Fits}
 use Rattle.std.proofs.Math.Path.{ap}
 use mathlib.Core.List.{List, [], ◌∷◌, ◌++◌}
-use Rattle.std.proofs.lemmas.Bool.{false≢true}
 use Prim.Native.Nat.{ℕ, suc, zero, ◌+◌, ◌-◌, ◌*◌, ◌/◌, ◌≤◌, ◌<◌}
 use native.Mathlib.Omega.{arith}
-use borrow.Author.Tests.{ltb-true, lt-ltb, eq-eqb, ne_eqb}
 use Rattle.std.specs.Int.{w64}
 use Rattle.flash.specs.Laws.{le_or_lt}
 use Rattle.rules.specs.declared.Area.{Area}
 use Rattle.rules.specs.Areas.{base, Entry, page_entries, entries_from, entries, first_of}
-use Rattle.rules.specs.Laws.{and_right}
 use Rattle.rules.specs.Places.{Right, base_suc, base_zero, base_le, base_in, page_in}
 use Rattle.area.specs.Checks.{base_fits, end_fits}
 use Rattle.pages.specs.Steps.{length_at, entries_at, entry_at, length_inside, entries_on, entries_end}
-use Rattle.entries.specs.declared.Cursor.{Cursor}
-use Rattle.entries.specs.Ahead.{onward, ahead, behind, Ends, Sound, Settled, page_onward, ends_next, onward_next, ahead_on, entry_of, fewer}
+use Rattle.entries.specs.declared.walk.Cursor.{Cursor}
+use Rattle.entries.specs.declared.walk.Entries.{Entries}
+use Rattle.entries.specs.declared.walk.Header.{Header}
+use Rattle.entries.specs.Ahead.{onward, ahead, left_of, first_cursor, header_of, Heads, Ends, Sound, Standing, Over, first_over, page_onward, ends_next, onward_next}
 
 -- ---- entries in front of a place
-abbrev AllBelow : ℕ → List Entry → Type 0
+abbrev pub AllBelow : ℕ → List Entry → Type 0
 AllBelow n [] = Unit {0}
 AllBelow n (e ∷ es) = (e.place < n) × AllBelow n es
 
@@ -45,8 +44,16 @@ page_below {a} {f} i r h =
     let e : length (take (base a i + a.words) f) ≡ base a (suc i) = length-take-le (base a i + a.words) f n ∙ sym s in
     rw (page_onward a f i (base_in r i (omega arith))) (rw e at (below_at (take (base a i + a.words) f) (length (take (base a i + a.words) f)) (base a i + 2) (omega arith)))
 
+pub below_none : (t : Entry → Bool) (n : ℕ) → ((e : Entry) → e.place < n → t e ≡ false) → (es : List Entry) → AllBelow n es → first_of t es ≡ None
+below_none t n i [] b = refl
+below_none t n i (e ∷ es) b = let z : t e ≡ false = i e b.0 in rw z (below_none t n i es b.1)
+
+pub below_past : (t : Entry → Bool) (n : ℕ) → ((e : Entry) → e.place < n → t e ≡ false) → (x y : List Entry) → AllBelow n x → first_of t (x ++ y) ≡ first_of t y
+below_past t n i [] y b = refl
+below_past t n i (e ∷ x) y b = let z : t e ≡ false = i e b.0 in rw z (below_past t n i x y b.1)
+
 -- ---- entries at a place or behind it
-abbrev AllAbove : ℕ → List Entry → Type 0
+abbrev pub AllAbove : ℕ → List Entry → Type 0
 AllAbove m [] = Unit {0}
 AllAbove m (e ∷ es) = (m ≤ e.place) × AllAbove m es
 
@@ -54,7 +61,7 @@ above_append : (m : ℕ) (x y : List Entry) → AllAbove m x → AllAbove m y �
 above_append m [] y i j = j
 above_append m (e ∷ x) y i j = (i.0, above_append m x y i.1 j)
 
-above_none : (t : Entry → Bool) (m : ℕ) → ((e : Entry) → m ≤ e.place → t e ≡ false) → (es : List Entry) → AllAbove m es → first_of t es ≡ None
+pub above_none : (t : Entry → Bool) (m : ℕ) → ((e : Entry) → m ≤ e.place → t e ≡ false) → (es : List Entry) → AllAbove m es → first_of t es ≡ None
 above_none t m n [] b = refl
 above_none t m n (e ∷ es) b = let z : t e ≡ false = n e b.0 in rw z (above_none t m n es b.1)
 
@@ -89,10 +96,8 @@ module _ {a : Area} {f : List ℕ} (r : Right a f) (m : ℕ) where
       (rw s (above_onward l (end + 2) (end + a.words) (omega arith) (omega arith) n))
 
 -- so no entry ahead of a cursor lies in front of it
-pub ahead_none : {a : Area} {f : List ℕ} {c : Cursor} (t : Entry → Bool) → ((e : Entry) → c.place ≤ e.place → t e ≡ false) → Right a f → Sound a f c → (c.length ≡ 0 → ⊥) → first_of t (ahead a f c) ≡ None
-ahead_none {a} {f} {c} t n r s z =
-    let i = s.fits in
-    above_none t c.place n (ahead a f c) (above_onward r c.place c.left c.place c.end (omega arith) (omega arith) s.ends)
+pub ahead_above : {a : Area} {f : List ℕ} {c : Cursor} (m : ℕ) → m ≤ c.place → Right a f → Sound a f c → AllAbove m (ahead a f c)
+ahead_above {c = c} m l r s = let i = s.within in above_onward r m c.left c.place c.end l (omega arith) s.ends
 
 -- ---- a test that no entry in front of a place passes
 module _ (t : Entry → Bool) (p : ℕ) (n : (e : Entry) → e.place < p → t e ≡ false) where
@@ -111,61 +116,88 @@ module _ (t : Entry → Bool) (p : ℕ) (n : (e : Entry) → e.place < p → t e
       rw m (first_past (page_entries a f j) (entries_from a f (a.pages - suc j) (suc j)) (base a (suc j)) l (page_below j r (omega arith))
       ∙ rw c at (first_from r k (suc j) (omega arith) (rw c b)))
 
--- ---- a cursor with all entries ahead that lie at a place or behind it
-pub record From (a : Area) (f : List ℕ) (place : ℕ) (c : Cursor) : Type 0 where
-  index : ℕ
-  inside : index < a.pages
-  before : base a index ≤ place
-  settled : Settled a f (entries_from a f (a.pages - index) index) c
+-- those of a list that begin it lie in front of a place
+below_append : (n : ℕ) (x : List Entry) (e : Entry) → AllBelow n x → e.place < n → AllBelow n (x ++ e ∷ [])
+below_append n [] e b l = (l, tt)
+below_append n (d ∷ x) e b l = (b.0, below_append n x e b.1 l)
 
--- the walk from it has come to a cursor with no entry at the place or behind it left behind
-pub record Reaching (a : Area) (f : List ℕ) (place : ℕ) (c : Cursor) : Type 0 where
-  pub sound : Sound a f c
-  pub same : (t : Entry → Bool) → ((e : Entry) → e.place < place → t e ≡ false) → first_of t (ahead a f c) ≡ first_of t (entries a f)
+-- ---- a walk over entries among which are all that lie at a place or behind it
+pub record From (a : Area) (f : List ℕ) (place : ℕ) (s : Entries) : Type 0 where
+  pub index : ℕ
+  pub inside : index < a.pages
+  pub before : base a index ≤ place
+  pub over : Over a f (entries_from a f (a.pages - index) index) s
+  pub front : 2 ≤ s.cursor.place
 
--- and to the first that is not in front of the place, or behind the last
-pub record Reached (a : Area) (f : List ℕ) (place : ℕ) (c : Cursor) : Type 0 where
-  pub reaching : Reaching a f place c
-  pub stop : not (eqb c.length 0) && ltb c.place place ≡ false
-
-pub reaching_start : {a : Area} {f : List ℕ} {c : Cursor} {p : ℕ} → From a f p c → Right a f → Reaching a f p c
+-- so a search for one of these gives what it gives in all
+pub from_same : {a : Area} {f : List ℕ} {s : Entries} {p : ℕ} (t : Entry → Bool) → ((e : Entry) → e.place < p → t e ≡ false) → From a f p s → Right a f
+    → first_of t (left_of s) ≡ first_of t (entries a f)
 unfolding entries
-reaching_start {a} {f} {c} {p} s r =
-    let i = s.index in
+from_same {a} {f} {s} {p} t n x r =
+    let i = x.index in
     let z : i + 0 ≡ i = omega arith in
     let m : a.pages - 0 ≡ a.pages = omega arith in
-    let b : i + 0 < a.pages = omega (arith, s.inside) in
-    let e : (t : Entry → Bool) → ((e : Entry) → e.place < p → t e ≡ false) → first_of t (ahead a f c) ≡ first_of t (entries a f) = λ t n. ap (first_of t) s.settled.same ∙ sym (rw (m, z) at (first_from t p n {a = a} {f = f} r i 0 b (rw z s.before))) in
-    record { sound = s.settled.sound; same = e }
+    let b : i + 0 < a.pages = omega (arith, x.inside) in
+    ap (first_of t) x.over.left ∙ sym (rw (m, z) at (first_from t p n {a = a} {f = f} r i 0 b (rw z x.before)))
 
-module _ {a : Area} {f : List ℕ} {c : Cursor} {p : ℕ} (s : Reaching a f p c) where
-  pub reaching_entry : not (eqb c.length 0) && ltb c.place p ≡ true → c.length ≡ 0 → ⊥
-  reaching_entry q z = false≢true (rw (eq-eqb c.length 0 z) at q)
+-- ---- the walk has come to the first entry that does not lie in front of the place, and was moved over it
+pub record Reached (p : ℕ) (s : Entries) (h : Header) (u : Entries) : Type 0 where
+  pub standing : Standing u
+  pub passed : List Entry
+  pub below : AllBelow p passed
+  pub entry : Entry
+  pub header : header_of entry ≡ h
+  pub whole : left_of s ≡ passed ++ entry ∷ left_of u
+  pub behind : p ≤ h.place
+  pub on : h.place < u.cursor.place
 
-  pub reaching_on : {d : Cursor} → Settled a f (behind a f c) d → not (eqb c.length 0) && ltb c.place p ≡ true → Reaching a f p d
-  unfolding entry_of
-  reaching_on {d} w q =
-      let l : c.place < p = ltb-true c.place p (and_right (not (eqb c.length 0)) (ltb c.place p) q) in
-      let e : (t : Entry → Bool) → ((e : Entry) → e.place < p → t e ≡ false) → first_of t (ahead a f d) ≡ first_of t (entries a f) = λ t n.
-      ap (first_of t) w.same ∙ (rw (n (entry_of f c) l) at (ap (first_of t) (sym (ahead_on s.sound (reaching_entry q))) ∙ s.same t n)) in
-      record { sound = w.sound; same = e }
+-- it has moved over some in front of it
+pub record Reaching (p : ℕ) (s u : Entries) : Type 0 where
+  pub standing : Standing u
+  pub passed : List Entry
+  pub below : AllBelow p passed
+  pub whole : left_of s ≡ passed ++ left_of u
 
-  pub reaching_end : not (eqb c.length 0) && ltb c.place p ≡ false → Reached a f p c
-  reaching_end q = record { reaching = s; stop = q }
+pub reaching_start : {p : ℕ} {s : Entries} → Standing s → Reaching p s s
+reaching_start x = record { standing = x; passed = []; below = tt; whole = refl }
 
--- an entry that is reached does not lie in front of the place
-pub reached_behind : {a : Area} {f : List ℕ} {c : Cursor} {p : ℕ} → Reached a f p c → (c.length ≡ 0 → ⊥) → p ≤ c.place
-reached_behind {c = c} {p = p} s z =
-    ⊎_elim (λ (l : p ≤ c.place). l) (λ (l : c.place < p). absurd (true≢false (rw (ne_eqb c.length 0 z, lt-ltb c.place p l) at s.stop))) (le_or_lt p c.place)
+header_place : {h : Header} (e : Entry) → header_of e ≡ h → e.place ≡ h.place
+header_place e q = ap (λ (d : Header). d.place) q
 
-pub ruleset reaches = (fewer, reaching_start, reaching_entry, reaching_on, reaching_end)
+pub reaching_on : {p : ℕ} {s u v : Entries} {h : Header} → Reaching p s u → Heads (left_of u) h (left_of v) → h.place < p → Standing v → Reaching p s v
+reaching_on {p} {v = v} x y l w =
+    record {
+      standing = w;
+      passed = x.passed ++ y.entry ∷ [];
+      below = below_append p x.passed y.entry x.below (rw (header_place y.entry y.header) l);
+      whole = rw y.first at x.whole ∙ move x.passed y.entry (left_of v);
+    }
+  where
+    move : (i : List Entry) (e : Entry) (j : List Entry) → i ++ e ∷ j ≡ (i ++ e ∷ []) ++ j
+    move [] e j = refl
+    move (d ∷ i) e j = ap (λ (k : List Entry). d ∷ k) (move i e j)
 
--- ---- the cursor at the first entry of a page
-pub from_first : {a : Area} {f : List ℕ} {c : Cursor} (p : ℕ) → Settled a f (entries a f) c → Right a f → From a f p c
+pub reached_here : {p : ℕ} {s u v : Entries} {h : Header} → Reaching p s u → Heads (left_of u) h (left_of v) → p ≤ h.place → h.place < v.cursor.place → Standing v → Reached p s h v
+reached_here x y l o w = record { standing = w; passed = x.passed; below = x.below; entry = y.entry; header = y.header; whole = rw y.first at x.whole; behind = l; on = o }
+
+pub reaching_end : {p : ℕ} {s u : Entries} → Reaching p s u → left_of u ≡ [] → AllBelow p (left_of s)
+reaching_end {p} x z = rw (rw z at x.whole, all_of x.passed) x.below
+  where
+    all_of : (i : List Entry) → i ++ [] ≡ i
+    all_of [] = refl
+    all_of (e ∷ i) = ap (λ (k : List Entry). e ∷ k) (all_of i)
+
+pub heads_fewer : {es ds : List Entry} {h : Header} → Heads es h ds → length ds < length es
+heads_fewer y = rw y.first (omega arith)
+
+pub ruleset reaches = (reaching_start, reaching_on, reached_here, reaching_end, heads_fewer)
+
+-- ---- a walk from the first entry of a page
+pub from_first : {a : Area} {f : List ℕ} {s : Entries} (p : ℕ) → s.area ≡ a → s.flash.now ≡ f → s.cursor ≡ first_cursor a → Right a f → From a f p s
 unfolding entries
-from_first {a} {f} p s r =
+from_first {a} {f} p x y z r =
     let m : a.pages - 0 ≡ a.pages = omega arith in
-    record { index = 0; inside = r.some_pages; before = omega (arith, base_zero a); settled = rw m s }
+    record { index = 0; inside = r.some_pages; before = omega (arith, base_zero a); over = rw m (first_over r x y z refl); front = rw z (omega arith) }
 
 module _ {a : Area} {f : List ℕ} (i : ℕ) (r : Right a f) (h : i < a.pages) where
   pub page_ends : Ends a f (i * a.words + a.words) (a.pages - 1 - i)
@@ -181,13 +213,24 @@ module _ {a : Area} {f : List ℕ} (i : ℕ) (r : Right a f) (h : i < a.pages) w
       let m : a.pages - i ≡ suc (a.pages - 1 - i) = omega arith in
       rw (e, m, page_onward a f i (base_in r i (omega arith)))
 
-pub from_page : {a : Area} {f : List ℕ} {c : Cursor} (p : ℕ) → Settled a f (onward a f (p / a.words * a.words + 2) (p / a.words * a.words + a.words) (a.pages - 1 - p / a.words)) c
-    → Right a f → p / a.words < a.pages → From a f p c
+pub from_page : {a : Area} {f : List ℕ} {s : Entries} (p : ℕ) → s.area ≡ a → s.flash.now ≡ f
+    → s.cursor ≡ record { place = p / a.words * a.words + 2; end = p / a.words * a.words + a.words; left = a.pages - 1 - p / a.words } → Right a f → p / a.words < a.pages → From a f p s
 unfolding base
-from_page {a} {f} {c} p s r h =
+from_page {a} {f} p x y z r h =
     let i = p / a.words in
-    let e : Settled a f (entries_from a f (a.pages - i) i) c = record { sound = s.sound; same = s.same ∙ page_ahead i r h } in
-    record { index = i; inside = h; before = div-mul-le_self p a.words; settled = e }
+    let j = r.wide in
+    record {
+      index = i;
+      inside = h;
+      before = div-mul-le_self p a.words;
+      over = record {
+        area = x;
+        flash = y;
+        standing = rw (x, y, z) (record { right = r; sound = record { ends = page_ends i r h; within = omega arith } });
+        left = rw (x, y, z) (page_ahead i r h);
+      };
+      front = rw z (omega arith);
+    }
 
 -- so far can be counted
 pub start_fits : {a : Area} {f : List ℕ} (i : ℕ) → Right a f → i < a.pages → Fits w64 (i * a.words + 2)

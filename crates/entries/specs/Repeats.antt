@@ -19,8 +19,7 @@ use Rattle.flash.specs.Laws.{le_or_lt}
 use Rattle.rules.specs.Words.{is_live}
 use Rattle.rules.specs.Areas.{Entry, any_of, live_of}
 use Rattle.rules.specs.Laws.{and_left, and_right, nor_left, nor_right}
-use Rattle.entries.specs.declared.doubles.Seen.{Seen}
-use Rattle.entries.specs.Noting.{slot, is_set, has, marked, noted, is_noted, all_noted, beside}
+use Rattle.entries.specs.Noting.{Kept, slot, is_set, has, marked, noted, is_noted, all_noted, beside}
 
 pub eq_or_not : (a b : ℕ) → (a ≡ b) ⊎ (a ≡ b → ⊥)
 eq_or_not a b = go (eqb a b) refl
@@ -150,10 +149,10 @@ alone t e es q = go (is_live e.handle) refl (t e.handle) refl q
     go true p true r z = absurd (true≢false z)
 
 -- ---- a handle that was noted is met again: its bit is set, and it is not above the highest
-abbrev met : List ℕ → Seen → ℕ → Bool
+abbrev met : List ℕ → Kept → ℕ → Bool
 met m s h = has m h && leb h s.top
 
-module _ (m : List ℕ) (s : Seen) (h : ℕ) where
+module _ (m : List ℕ) (s : Kept) (h : ℕ) where
   top_higher : s.top ≤ (noted m s true h).top
   unfolding noted
   top_higher = go (ltb s.top h) refl (has m h)
@@ -207,16 +206,16 @@ module _ (m : List ℕ) (s : Seen) (h : ℕ) where
 
 -- ---- a window whose bit is not set has no handle twice
 module _ (t : ℕ → Bool) (w : ℕ) where
-  abbrev again : List ℕ → Seen → Entry → Bool
+  abbrev again : List ℕ → Kept → Entry → Bool
   again m s e = is_noted t e && (in_window w e.handle && met m s e.handle)
 
-  record Clear (m : List ℕ) (s : Seen) (es : List Entry) : Type 0 where
+  record Clear (m : List ℕ) (s : Kept) (es : List Entry) : Type 0 where
     windows : is_set s.windows w ≡ false
     fresh : any_of (again m s) es ≡ false
     once : twice_in (both t w) es ≡ false
 
   -- an entry in front that is not noted
-  clear_past : (m : List ℕ) (s : Seen) (e : Entry) (es : List Entry) → is_noted t e ≡ false → Clear (marked m false e.handle) (noted m s false e.handle) es
+  clear_past : (m : List ℕ) (s : Kept) (e : Entry) (es : List Entry) → is_noted t e ≡ false → Clear (marked m false e.handle) (noted m s false e.handle) es
       → Clear m s (e ∷ es)
   unfolding marked noted
   clear_past m s e es q c = record { windows = c.windows; fresh = rw q c.fresh; once = rw (alone (both t w) e es (off (is_live e.handle) (t e.handle) (in_window w e.handle) q)) c.once }
@@ -227,7 +226,7 @@ module _ (t : ℕ → Bool) (w : ℕ) where
       off false b d z = refl
 
   -- one that is
-  clear_noted : (m : List ℕ) (s : Seen) (e : Entry) (es : List Entry) → length m ≡ 16 → is_noted t e ≡ true
+  clear_noted : (m : List ℕ) (s : Kept) (e : Entry) (es : List Entry) → length m ≡ 16 → is_noted t e ≡ true
       → Clear (marked m true e.handle) (noted m s true e.handle) es → Clear m s (e ∷ es)
   clear_noted m s e es n q c =
       record {
@@ -242,7 +241,7 @@ module _ (t : ℕ → Bool) (w : ℕ) where
       m' : List ℕ
       m' = marked m true h
 
-      s' : Seen
+      s' : Kept
       s' = noted m s true h
 
       x : (is_set s.windows w ≡ false) × (in_window w h && met m s h ≡ false)
@@ -263,7 +262,7 @@ module _ (t : ℕ → Bool) (w : ℕ) where
       found : both t w h && any_of (live_of h) es ≡ true → any_of (again m' s') es ≡ true
       found y = true_by (any_of (live_of h) es) (any_of (again m' s') es) (any_false (live_of h) (again m' s') (λ d. same d (and_left (both t w h) (any_of (live_of h) es) y)) es) (and_right (both t w h) (any_of (live_of h) es) y)
 
-  clear : (m : List ℕ) (s : Seen) (es : List Entry) → length m ≡ 16 → is_set (all_noted t m s es).windows w ≡ false → Clear m s es
+  clear : (m : List ℕ) (s : Kept) (es : List Entry) → length m ≡ 16 → is_set (all_noted t m s es).windows w ≡ false → Clear m s es
   clear m s [] n z = record { windows = z; fresh = refl; once = refl }
   clear m s (e ∷ es) n z =
       go (is_noted t e) refl (clear (marked m (is_noted t e) e.handle) (noted m s (is_noted t e) e.handle) es (marked_long m (is_noted t e) e.handle ∙ n) z)
@@ -272,7 +271,7 @@ module _ (t : ℕ → Bool) (w : ℕ) where
       go true q c = clear_noted m s e es n q c
       go false q c = clear_past m s e es q c
 
-  pub window_once : (m : List ℕ) (s : Seen) (es : List Entry) → length m ≡ 16 → is_set (all_noted t m s es).windows w ≡ false → twice_in (both t w) es ≡ false
+  pub window_once : (m : List ℕ) (s : Kept) (es : List Entry) → length m ≡ 16 → is_set (all_noted t m s es).windows w ≡ false → twice_in (both t w) es ≡ false
   window_once m s es n z = (clear m s es n z).once
 
 -- ---- handles that are not looked for in a window

@@ -1,6 +1,6 @@
 -- What the walks that look for a handle live twice have come to: the one over all windows, the one over a window, and the windows one behind
 -- the other. Laws. Assumes nothing.
-use Rattle.std.specs.Prelude.{◌≡◌, List, [], ◌∷◌, Bool, not, ◌&&◌, ◌||◌, ℕ, ◌+◌, ◌/◌, ◌%◌, ◌^◌, ◌≤◌, ◌<◌, length, get_or, eqb}
+use Rattle.std.specs.Prelude.{◌≡◌, List, [], ◌∷◌, Bool, not, ◌&&◌, ◌||◌, ℕ, ◌+◌, ◌/◌, ◌%◌, ◌^◌, ◌≤◌, ◌<◌, length, eqb}
 use Rattle.std.proofs.Math.Path.{refl, sym}
 use Rattle.std.proofs.Common.{ap, ◌∙◌, ⊎_elim, arith, mod-lt, pow_mono, eqb-true, eq-eqb, ne_eqb, Fits}
 use Rattle.std.proofs.Math.Bool.{true, false, and-true, and-false}
@@ -9,56 +9,50 @@ use Rattle.std.proofs.lemmas.List.{length-replicate, get_or-replicate}
 use Rattle.std.specs.Int.Bits.{bit_and, and_zero_l}
 use Rattle.std.specs.Int.{w64}
 use Rattle.flash.specs.Laws.{le_or_lt}
-use Rattle.rules.specs.declared.Area.{Area}
-use Rattle.rules.specs.Words.{handle_of, is_live}
-use Rattle.rules.specs.Areas.{Entry, entries, any_of, live_of, twice}
+use Rattle.rules.specs.Words.{is_live}
+use Rattle.rules.specs.Areas.{Entry, any_of, live_of, twice}
 use Rattle.rules.specs.Laws.{and_left, and_right, nor_left, nor_right}
-use Rattle.entries.specs.declared.Cursor.{Cursor}
-use Rattle.entries.specs.declared.doubles.Seen.{Seen}
-use Rattle.entries.specs.Ahead.{ahead, behind, entry_of, Sound, Settled, ahead_end, ahead_on, fewer}
-use Rattle.entries.specs.Noting.{slot, is_set, has, marked, noted, is_noted, all_noted, any_handle, beside, blank_map, nothing, unmarked, unnoted}
+use Rattle.entries.specs.declared.walk.Header.{Header}
+use Rattle.entries.specs.Ahead.{Heads}
+use Rattle.entries.specs.Noting.{Kept, slot, is_set, has, marked, noted, is_noted, all_noted, any_handle, beside, blank_map, nothing, unmarked, unnoted}
 use Rattle.entries.specs.Repeats.{twice_in, in_window, both, has_marked, marked_long, alone, eq_or_not, false_by, true_by, set_by, window_once, dead_none}
 
 -- ---- the walk over all windows
-pub record Hearing (a : Area) (f : List ℕ) (c : Cursor) (m : List ℕ) (s : Seen) : Type 0 where
-  pub sound : Sound a f c
-  pub same : all_noted any_handle m s (ahead a f c) ≡ all_noted any_handle blank_map nothing (entries a f)
+pub record Hearing (es ds : List Entry) (m : List ℕ) (s : Kept) : Type 0 where
+  pub same : all_noted any_handle m s ds ≡ all_noted any_handle blank_map nothing es
 
-pub hearing_start : {a : Area} {f : List ℕ} {c : Cursor} → Settled a f (entries a f) c → Hearing a f c blank_map nothing
-hearing_start s = record { sound = s.sound; same = ap (all_noted any_handle blank_map nothing) s.same }
+pub hearing_start : {es ds : List Entry} → ds ≡ es → Hearing es ds blank_map nothing
+hearing_start e = record { same = ap (all_noted any_handle blank_map nothing) e }
 
-noted_live : (m : List ℕ) (s : Seen) (e : Entry) (es : List Entry)
+noted_live : (m : List ℕ) (s : Kept) (e : Entry) (es : List Entry)
     → all_noted any_handle m s (e ∷ es) ≡ all_noted any_handle (marked m (is_live e.handle) e.handle) (noted m s (is_live e.handle) e.handle) es
 noted_live m s e es = ap (λ (b : Bool). all_noted any_handle (marked m b e.handle) (noted m s b e.handle) es) (and-true (is_live e.handle))
 
-hearing_on : {a : Area} {f m n : List ℕ} {c d : Cursor} {s u : Seen} {k : ℕ} → Hearing a f c m s → Settled a f (behind a f c) d → (c.length ≡ 0 → ⊥) → k ≡ handle_of (get_or f c.place 0)
-    → n ≡ marked m (is_live k) k → u ≡ noted m s (is_live k) k → Hearing a f d n u
-unfolding entry_of
-hearing_on {a} {f} {m} {c = c} {s = s} x w z e p q =
-    record {
-      sound = w.sound;
-      same = rw (p, q, e, w.same) (sym (noted_live m s (entry_of f c) (behind a f c)) ∙ ap (all_noted any_handle m s) (sym (ahead_on x.sound z)) ∙ x.same);
-    }
+module _ {es ds us : List Entry} {m : List ℕ} {s : Kept} {h : Header} (x : Hearing es ds m s) (w : Heads ds h us) where
+  heard : all_noted any_handle (marked m (is_live h.handle) h.handle) (noted m s (is_live h.handle) h.handle) us ≡ all_noted any_handle blank_map nothing es
+  heard =
+      let i : w.entry.handle ≡ h.handle = ap (λ (u : Header). u.handle) w.header in
+      rw i at (sym (noted_live m s w.entry us) ∙ ap (all_noted any_handle m s) (sym w.first) ∙ x.same)
 
-module _ {a : Area} {f m : List ℕ} {c d : Cursor} {s : Seen} {k : ℕ} (x : Hearing a f c m s) (w : Settled a f (behind a f c) d) (z : c.length ≡ 0 → ⊥) (e : k ≡ handle_of (get_or f c.place 0)) where
-  pub hearing_live : {n : List ℕ} {u : Seen} → (k ≡ 0 → ⊥) → n ≡ marked m true k → u ≡ noted m s true k → Hearing a f d n u
-  hearing_live y p q = hearing_on x w z e (rw (ne_eqb k 0 y) p) (rw (ne_eqb k 0 y) q)
+  pub hearing_live : {n : List ℕ} {u : Kept} → (h.handle ≡ 0 → ⊥) → n ≡ marked m true h.handle → u ≡ noted m s true h.handle → Hearing es us n u
+  hearing_live y p q = record { same = rw (p, q) (rw (ne_eqb h.handle 0 y) at heard) }
 
-  pub hearing_dead : k ≡ 0 → Hearing a f d m s
-  hearing_dead y = let t : is_live k ≡ false = rw y in hearing_on x w z e (unmarked (is_live k) m k t) (unnoted (is_live k) m k t s)
+  pub hearing_dead : h.handle ≡ 0 → Hearing es us m s
+  hearing_dead y =
+      let t : is_live h.handle ≡ false = rw y in
+      record { same = rw (← unmarked (is_live h.handle) m h.handle t, ← unnoted (is_live h.handle) m h.handle t s) at heard }
 
-pub hearing_end : {a : Area} {f m : List ℕ} {c : Cursor} {s : Seen} → Hearing a f c m s → c.length ≡ 0 → s.windows ≡ (all_noted any_handle blank_map nothing (entries a f)).windows
-hearing_end {m = m} {s = s} x z = ap (λ (u : Seen). u.windows) (ap (all_noted any_handle m s) (sym (ahead_end x.sound z)) ∙ x.same)
+pub hearing_end : {es ds : List Entry} {m : List ℕ} {s : Kept} → Hearing es ds m s → ds ≡ [] → s.windows ≡ (all_noted any_handle blank_map nothing es).windows
+hearing_end {m = m} {s = s} x z = ap (λ (u : Kept). u.windows) (ap (all_noted any_handle m s) (sym z) ∙ x.same)
 
 -- ---- the walk over a window
 -- whether an entry is noted in the map already
 abbrev again : (ℕ → Bool) → List ℕ → Entry → Bool
 again t m e = is_noted t e && has m e.handle
 
-pub record Repeating (t : ℕ → Bool) (w : ℕ) (a : Area) (f : List ℕ) (c : Cursor) (m : List ℕ) : Type 0 where
-  pub sound : Sound a f c
+pub record Repeating (t : ℕ → Bool) (w : ℕ) (es ds : List Entry) (m : List ℕ) : Type 0 where
   pub long : length m ≡ 16
-  pub same : any_of (again (both t w) m) (ahead a f c) || twice_in (both t w) (ahead a f c) ≡ twice_in (both t w) (entries a f)
+  pub same : any_of (again (both t w) m) ds || twice_in (both t w) ds ≡ twice_in (both t w) es
 
 -- nothing is noted in a blank map
 has_none : (h : ℕ) → has blank_map h ≡ false
@@ -68,8 +62,8 @@ none_again : (t : ℕ → Bool) (es : List Entry) → any_of (again t blank_map)
 none_again t [] = refl
 none_again t (e ∷ es) = rw (has_none e.handle, and-false (is_noted t e)) (none_again t es)
 
-pub repeating_start : {t : ℕ → Bool} {w : ℕ} {a : Area} {f : List ℕ} {c : Cursor} → Settled a f (entries a f) c → Repeating t w a f c blank_map
-repeating_start {t} {w} {a} {f} {c} s = record { sound = s.sound; long = length-replicate {A = ℕ} 16 0; same = rw (none_again (both t w) (ahead a f c)) (ap (twice_in (both t w)) s.same) }
+pub repeating_start : {t : ℕ → Bool} {w : ℕ} {es ds : List Entry} → ds ≡ es → Repeating t w es ds blank_map
+repeating_start {t} {w} {ds = ds} s = record { long = length-replicate {A = ℕ} 16 0; same = rw (none_again (both t w) ds) (ap (twice_in (both t w)) s) }
 
 -- a handle of the window is noted
 module _ (t : ℕ → Bool) (w : ℕ) (m : List ℕ) (n : length m ≡ 16) (e : Entry) (q : is_noted (both t w) e ≡ true) where
@@ -127,41 +121,38 @@ past t w m n e es true r z =
     assoc false j l = refl
 past t w m n e es false r z = rw (r, alone (both t w) e es r)
 
-module _ {t : ℕ → Bool} {w : ℕ} {a : Area} {f : List ℕ} {c : Cursor} {m : List ℕ} {b : Bool} {k : ℕ} (x : Repeating t w a f c m) (z : c.length ≡ 0 → ⊥)
-    (e : k ≡ handle_of (get_or f c.place 0)) (q : b ≡ (is_live k && both t w k) && has m k) where
-  here : any_of (again (both t w) m) (entry_of f c ∷ behind a f c) || twice_in (both t w) (entry_of f c ∷ behind a f c) ≡ twice_in (both t w) (entries a f)
-  here = rw (ahead_on x.sound z) at x.same
+module _ {t : ℕ → Bool} {w : ℕ} {es ds us : List Entry} {m : List ℕ} {b : Bool} {d : Header} (x : Repeating t w es ds m) (y : Heads ds d us)
+    (q : b ≡ (is_live d.handle && both t w d.handle) && has m d.handle) where
+  met : y.entry.handle ≡ d.handle
+  met = ap (λ (u : Header). u.handle) y.header
+
+  here : any_of (again (both t w) m) (y.entry ∷ us) || twice_in (both t w) (y.entry ∷ us) ≡ twice_in (both t w) es
+  here = rw y.first at x.same
+
+  again_is : is_noted (both t w) y.entry && has m y.entry.handle ≡ b
+  again_is = rw met (sym q)
 
   -- it was noted before
-  twice_here : b ≡ true → twice_in (both t w) (entries a f) ≡ true
-  unfolding entry_of
-  twice_here y =
-      let g : is_noted (both t w) (entry_of f c) && has m (entry_of f c).handle ≡ true = rw (← e) (sym q ∙ y) in
-      sym (rw g at here)
+  pub repeated_is : b ≡ true → true ≡ twice_in (both t w) es
+  repeated_is z = rw (again_is ∙ z) at here
 
-  pub repeated_is : b ≡ true → true ≡ twice_in (both t w) (entries a f)
-  repeated_is y = sym (twice_here y)
-
-  pub repeated_in : b ≡ true → k / 1024 ≡ w
-  repeated_in y =
-      let i = and_right (is_live k) (both t w k) (and_left (is_live k && both t w k) (has m k) (sym q ∙ y)) in
-      eqb-true (k / 1024) w (and_right (t k) (in_window w k) i)
+  pub repeated_in : b ≡ true → d.handle / 1024 ≡ w
+  repeated_in z =
+      let i = and_right (is_live d.handle) (both t w d.handle) (and_left (is_live d.handle && both t w d.handle) (has m d.handle) (sym q ∙ z)) in
+      eqb-true (d.handle / 1024) w (and_right (t d.handle) (in_window w d.handle) i)
 
   -- it was not
-  pub repeating_on : {n : List ℕ} {d : Cursor} → b ≡ false → n ≡ marked m (is_live k && both t w k) k → Settled a f (behind a f c) d → Repeating t w a f d n
-  unfolding entry_of
-  repeating_on {n} {d} y p s =
-      let g : is_noted (both t w) (entry_of f c) && has m (entry_of f c).handle ≡ false = rw (← e) (sym q ∙ y) in
+  pub repeating_on : {n : List ℕ} → b ≡ false → n ≡ marked m (is_live d.handle && both t w d.handle) d.handle → Repeating t w es us n
+  repeating_on {n} z p =
       record {
-        sound = s.sound;
-        long = rw p (marked_long m (is_live k && both t w k) k ∙ x.long);
-        same = rw (s.same, p, e) (sym (past t w m x.long (entry_of f c) (behind a f c) (is_noted (both t w) (entry_of f c)) refl g) ∙ here);
+        long = rw p (marked_long m (is_live d.handle && both t w d.handle) d.handle ∙ x.long);
+        same = rw p (rw met at (sym (past t w m x.long y.entry us (is_noted (both t w) y.entry) refl (again_is ∙ z)) ∙ here));
       }
 
-pub repeating_end : {t : ℕ → Bool} {w : ℕ} {a : Area} {f m : List ℕ} {c : Cursor} → Repeating t w a f c m → c.length ≡ 0 → false ≡ twice_in (both t w) (entries a f)
-repeating_end {t} {w} {m = m} x z = rw (sym (rw (ahead_end x.sound z) at x.same))
+pub repeating_end : {t : ℕ → Bool} {w : ℕ} {es ds : List Entry} {m : List ℕ} → Repeating t w es ds m → ds ≡ [] → false ≡ twice_in (both t w) es
+repeating_end {t} {w} {m = m} x z = rw z at x.same
 
-pub ruleset sweeps = (fewer, hearing_start, hearing_live, hearing_dead, hearing_end, repeating_start, repeated_is, repeated_in, repeating_on, repeating_end)
+pub ruleset sweeps = (hearing_start, hearing_live, hearing_dead, hearing_end, repeating_start, repeated_is, repeated_in, repeating_on, repeating_end)
 
 -- ---- the windows, one behind the other
 -- live handles that pass a narrower test

@@ -3,32 +3,34 @@
 // one may be live twice; a walk for each of these tells whether one is. Promises are the definitions
 // of `rules`, and those of `Noting`, which say what the map and what is kept beside it become.
 //
-// Every function here is proved. Of the public ones `note` asks for a handle of 16 bits, the others
-// for a right geometry, and `confirmed` and `drop_in` besides for the windows that noting all live
-// handles gives. `drop_in` and `drop_doubles` alone store; the others change no word of the flash.
-ghost use Rattle.std.specs.Prelude.{true, false, ◌&&◌, ◌≡◌, ◌/◌, ◌^◌, ◌<◌, slice_index, IfSome};
+// Every function here is proved. Of the public ones `new` asks for nothing, `note` for a handle of 16
+// bits, the others for a right geometry, and `confirmed` and `drop_in` besides for the windows that
+// noting all live handles gives. `drop_in` and `drop_doubles` alone store; the others change no word
+// of the flash.
+ghost use Rattle.std.specs.Prelude.{true, false, ◌&&◌, ◌≡◌, ◌/◌, ◌^◌, ◌<◌, IfSome};
 ghost use Rattle.std.specs.Option.{ForSome, is_some};
 ghost use Rattle.std.specs.Int.Bits.{bit_or};
 ghost use Rattle.flash.specs.Stores.{Ran};
-ghost use Rattle.rules.specs.Words.{handle_of, is_live};
+ghost use Rattle.rules.specs.Words.{is_live};
 ghost use Rattle.rules.specs.Areas.{entries, twice};
 ghost use Rattle.rules.specs.Lists.{drop_doubles};
 ghost use Rattle.rules.specs.Places.{Right};
-ghost use Rattle.entries.specs.Noting.{has, marked, noted, all_noted, any_handle, beside, blank_map, nothing};
+ghost use Rattle.entries.specs.Noting.{has, marked, kept, noted, unseen, all_noted, any_handle, beside, blank_map, nothing};
 ghost use Rattle.entries.specs.Ahead.{ahead, Sound};
 ghost use Rattle.entries.specs.Doubles.{drops, put_if};
 ghost use Rattle.entries.specs.Repeats.{twice_in, both};
 ghost use Rattle.entries.specs.Sweeping.{Windowed};
 
-use crate::{Cursor, after, first, is_live_from};
+use crate::walk::{Cursor, Entries, Header};
 use flash::Power;
 use rules::Area;
 
-// What is kept beside the map: the highest handle noted, and of the windows of 1,024 handles those
-// in which a handle may have been noted twice, one bit for each.
-#[derive(Clone, Copy)]
+// What was seen of handles: a map of those noted, the highest of them, and the windows of 1,024
+// handles in which one may have been noted twice, one bit for each.
+#[derive(Drop)]
 pub struct Seen {
-    pub top: u32,
+    map: [u64; 16],
+    top: u32,
     pub windows: u64,
 }
 
@@ -65,26 +67,33 @@ fn with_window(windows: u64, handle: u32) -> u64
     windows | bit(handle / 1024)
 }
 
-// Notes a handle. It may have been noted before if its bit is set and it is not above the highest.
-#[tactic(auto, using(crate::specs::Noting::notes))]
-pub fn note(map: &mut [u64; 16], seen: Seen, handle: u32) -> Seen
-    requires { handle < 65536 }
-    ensures seen { result ≡ noted map.old seen true handle }
-    ensures map { map.new ≡ marked map.old true handle }
-{
-    let again = mark(map, handle);
-    if seen.top < handle {
-        return Seen {
-            top: handle,
-            windows: seen.windows,
-        };
+impl Seen {
+    // None was noted.
+    pub fn new() -> Seen
+        ensures { result ≡ unseen }
+    {
+        Seen {
+            map: [0u64; 16],
+            top: 0,
+            windows: 0,
+        }
     }
-    if !again {
-        return seen;
-    }
-    Seen {
-        top: seen.top,
-        windows: with_window(seen.windows, handle),
+
+    // Notes a handle. It may have been noted before if its bit is set and it is not above the highest.
+    #[tactic(auto, using(crate::specs::Noting::notes))]
+    pub fn note(&mut self, handle: u32)
+        requires { handle < 65536 }
+        ensures kept { kept self.new ≡ noted self.old.map (kept self.old) true handle }
+        ensures map { self.new.map ≡ marked self.old.map true handle }
+    {
+        let again = mark(&mut self.map, handle);
+        if self.top < handle {
+            self.top = handle;
+            return;
+        }
+        if again {
+            self.windows = with_window(self.windows, handle);
+        }
     }
 }
 
@@ -94,16 +103,11 @@ fn suspects(flash: &[u32], area: Area) -> u64
     requires { Right area flash.now }
     ensures { result ≡ (all_noted any_handle blank_map nothing (entries area flash.now)).windows }
 {
-    let mut map = [0u64; 16];
-    let mut seen = Seen { top: 0, windows: 0 };
-    let mut cursor = first(flash, area);
-    while cursor.length != 0 {
-        let place = cursor.place;
-        let handle = pages::handle_of(flash[place]);
-        if handle != 0 {
-            seen = note(&mut map, seen, handle);
+    let mut seen = Seen::new();
+    for entry in Entries::of(flash, area) {
+        if entry.handle != 0 {
+            seen.note(entry.handle);
         }
-        cursor = after(flash, area, cursor);
     }
     seen.windows
 }
@@ -131,14 +135,10 @@ fn repeated(flash: &[u32], area: Area, window: u32, aside: u32) -> Option<u32>
     ensures within { IfSome result (λ h. h / 1024 ≡ window) }
 {
     let mut map = [0u64; 16];
-    let mut cursor = first(flash, area);
-    while cursor.length != 0 {
-        let place = cursor.place;
-        let handle = pages::handle_of(flash[place]);
-        if mark_in(&mut map, window, aside, handle) {
-            return Some(handle);
+    for entry in Entries::of(flash, area) {
+        if mark_in(&mut map, window, aside, entry.handle) {
+            return Some(entry.handle);
         }
-        cursor = after(flash, area, cursor);
     }
     None
 }
@@ -192,28 +192,26 @@ fn is_behind(flash: &[u32], area: Area, start: Cursor, handle: u32, only: Option
 {
     match only {
         Some(one) if handle != one => false,
-        _ => is_live_from(flash, area, start, handle),
+        _ => Entries::from_cursor(flash, area, start).has_live(handle),
     }
 }
 
-// Stores to its bare length the header of the entry at a cursor, if its handle is live from the next
-// cursor on. It may be known that one handle alone is live twice.
+// Stores to its bare length the header of an entry, if its handle is live from the cursor behind it
+// on. It may be known that one handle alone is live twice.
 #[tactic(auto, using(crate::specs::Doubles::drops_each))]
 fn drop_doubled(
     flash: &mut [u32],
     area: Area,
-    cursor: Cursor,
-    next: Cursor,
+    entry: Header,
+    behind: Cursor,
     only: Option<u32>,
     power: Power,
 ) -> Power
-    requires { Right area flash.old × Sound area flash.old cursor × (cursor.length ≡ 0 → ⊥) × Sound area flash.old next }
-    ensures { Ran (put_if (drops only (handle_of (slice_index flash.old cursor.place)) (ahead area flash.old next)) cursor.place cursor.length) power flash.old result flash.new }
+    requires { Right area flash.old × Sound area flash.old behind × (entry.length < 65536) }
+    ensures { Ran (put_if (drops only entry.handle (ahead area flash.old behind)) entry.place entry.length) power flash.old result flash.new }
 {
-    let place = cursor.place;
-    let handle = pages::handle_of(flash[place]);
-    if is_behind(flash, area, next, handle, only) {
-        return flash::store(flash, place, cursor.length as u32, power);
+    if is_behind(flash, area, behind, entry.handle, only) {
+        return flash::store(flash, entry.place, entry.length as u32, power);
     }
     power
 }
@@ -227,11 +225,9 @@ fn drop_each(flash: &mut [u32], area: Area, only: Option<u32>, power: Power) -> 
     ensures { Ran (drop_doubles area flash.old) power flash.old result flash.new }
 {
     let mut p = power;
-    let mut cursor = first(flash, area);
-    while cursor.length != 0 {
-        let next = after(flash, area, cursor);
-        p = drop_doubled(flash, area, cursor, next, only, p);
-        cursor = next;
+    let mut cursor = Cursor::first(area);
+    while let Some(entry) = cursor.next(flash, area) {
+        p = drop_doubled(flash, area, entry, cursor, only, p);
     }
     p
 }

@@ -1,8 +1,8 @@
 -- A line's answer, from what the line does and what is said of it; that the promise allows one outcome; where a line ends; and that the
 -- pieces of an answer are the answer: laws.
 -- Assumes nothing.
-use Rattle.std.specs.Prelude.{◌≡◌, refl, Some, None, unwrap_or, List, [], ◌∷◌, ◌++◌, Bool, true, false, cond, ℕ, suc, zero, ◌+◌, ◌≤◌, ◌<◌, length, get_or, take, drop, ltb, eqb}
-use Rattle.std.proofs.Common.{sym, ap, ap₂, ◌∙◌, append_assoc, append-nil, zero-le, arith, add-one, length-take, length-drop, take-append-drop, drop_of_length-le, drop-cons, drop-drop, take_at, ltb-false, eq-eqb, ne_eqb}
+use Rattle.std.specs.Prelude.{◌≡◌, refl, Some, None, unwrap_or, List, [], ◌∷◌, ◌++◌, Bool, true, false, cond, ℕ, suc, zero, ◌+◌, ◌≤◌, ◌<◌, length, take, drop, ltb, eqb}
+use Rattle.std.proofs.Common.{sym, ap, ap₂, ◌∙◌, append_assoc, append-nil, zero-le, arith, length-take, length-drop, take-append-drop, drop_of_length-le, drop-drop, take_at, ltb-false}
 use Rattle.std.proofs.lemmas.List.Recursion.{is_position_or_len}
 use Rattle.std.specs.List.{position_or_len}
 use Rattle.flash.specs.Laws.{settled}
@@ -10,15 +10,14 @@ use Rattle.frames.specs.declared.State.{State}
 use Rattle.frames.specs.declared.Reply.{Reply}
 use Rattle.frames.specs.declared.Said.{Said}
 use Rattle.frames.specs.declared.Answered.{Answered}
-use Rattle.frames.specs.declared.carrying.Taken.{Taken}
 use Rattle.frames.specs.Frames.{bytes, carried, newline, Says, Responds, line_length, lines_from}
 use Rattle.frames.specs.Carrying.{Carries}
 use Rattle.frames.specs.Saying.{says_settles}
 
 -- ---- an answer
-pub responds : {s : State} {t : Taken} {g o p : List ℕ} {d : Said} (f l : List ℕ) → Carries (carried s f l) t g → Says (bytes t.reply g) 0 o d p
-    → Responds s f l o (record { state = t.state; reply = t.reply; said = d }) g p
-responds f l c b = record { state = c.state; reply = c.reply; flash = c.flash; said = rw (c.reply, c.flash) at b }
+pub responds : {s p : State} {r : Reply} {g h o q : List ℕ} {d : Said} (f l : List ℕ) → Carries (carried s f l) r p g → Says (bytes r g) 0 o d q → h ≡ g
+    → Responds s f l o (record { state = p; reply = r; said = d }) h q
+responds f l c b e = record { state = c.state; reply = c.reply; flash = e ∙ c.flash; said = rw (c.reply, c.flash) at b }
 
 -- one outcome, and no other
 pub response_settles : {s : State} {f l o g h p q : List ℕ} {x y : Answered} → Responds s f l o x g p → Responds s f l o y h q → (x ≡ y) × (g ≡ h) × (p ≡ q)

@@ -1,6 +1,6 @@
 -- The kinds of frames: their numbers, the digits that they have, and the frame of a line by its kind: definitions and laws. Assumes nothing.
-use Rattle.std.specs.Prelude.{◌≡◌, refl, Option, Some, None, List, Bool, true, false, cond, ◌&&◌, ℕ, ◌-◌, ◌/◌, ◌%◌, ◌≤◌, ◌<◌, length, leb, eqb}
-use Rattle.std.proofs.Common.{sym, ◌∙◌, ap, arith, leb-true, eqb-true, ne_eqb}
+use Rattle.std.specs.Prelude.{◌≡◌, Some, None, List, Bool, true, false, ℕ, ◌-◌, ◌/◌, ◌≤◌, ◌<◌, length, leb, eqb}
+use Rattle.std.proofs.Common.{sym, ◌∙◌, arith, leb-true, eqb-true, ne_eqb}
 use Rattle.rules.specs.Laws.{and_left}
 use Rattle.frames.specs.declared.Frame.{Frame}
 use Rattle.frames.specs.declared.line.Kind.{Kind}
@@ -31,14 +31,15 @@ module _ (l : List ℕ) where
   pub no_kind : (n : ℕ) → (1 ≤ n → 7 < n) → None ≡ shaped n l
   unfolding shaped
   no_kind n h =
-      rw
-      (ne_eqb n 1 (λ (e : n ≡ 1). let k = h (omega arith) in omega arith),
+      rw (
+        ne_eqb n 1 (λ (e : n ≡ 1). let k = h (omega arith) in omega arith),
         ne_eqb n 2 (λ (e : n ≡ 2). let k = h (omega arith) in omega arith),
         ne_eqb n 3 (λ (e : n ≡ 3). let k = h (omega arith) in omega arith),
         ne_eqb n 4 (λ (e : n ≡ 4). let k = h (omega arith) in omega arith),
         ne_eqb n 5 (λ (e : n ≡ 5). let k = h (omega arith) in omega arith),
         ne_eqb n 6 (λ (e : n ≡ 6). let k = h (omega arith) in omega arith),
-        ne_eqb n 7 (λ (e : n ≡ 7). let k = h (omega arith) in omega arith))
+        ne_eqb n 7 (λ (e : n ≡ 7). let k = h (omega arith) in omega arith),
+      )
 
   unshaped : (k : Kind) → has_digits k (length l) ≡ false → None ≡ shaped (number_of_kind k) l
   unfolding shaped

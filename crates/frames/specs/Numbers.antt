@@ -1,6 +1,6 @@
 -- The number that digits make, one behind the other, and that two, four and eight of a line's digits make: definition and laws. Assumes nothing.
-use Rattle.std.specs.Prelude.{◌≡◌, refl, List, [], ◌∷◌, Bool, true, false, ◌&&◌, ◌||◌, ◌⊎◌, ℕ, suc, zero, ◌+◌, ◌-◌, ◌*◌, ◌^◌, ◌≤◌, ◌<◌, length, get_or, take, drop, leb}
-use Rattle.std.proofs.Common.{sym, ◌∙◌, ap, inl, inr, ⊎_elim, arith, add-one, zero-le, drop-cons, drop_of_length-le, length-take, length-drop, le-leb, leb-true, lit<, Fits}
+use Rattle.std.specs.Prelude.{◌≡◌, refl, List, [], ◌∷◌, Bool, true, false, ◌&&◌, ◌⊎◌, ℕ, suc, zero, ◌+◌, ◌-◌, ◌*◌, ◌^◌, ◌≤◌, ◌<◌, length, get_or, take, drop, leb}
+use Rattle.std.proofs.Common.{◌∙◌, inl, inr, ⊎_elim, arith, add-one, drop-cons, drop_of_length-le, length-take, length-drop, le-leb, leb-true, lit<, Fits}
 use Rattle.std.proofs.Math.Nat.{pow-suc, pow-le-pow_right}
 use Rattle.std.proofs.lemmas.Bool.{lt-leb}
 use Rattle.std.specs.Int.{w8, w16, w32}
@@ -25,26 +25,12 @@ low_or_high b e = go (leb 0x30 b && leb b 0x39) refl
         let h : leb 0x41 b && leb b 0x46 ≡ true = rw q at e in
         inr (leb-true 0x41 b (and_left (leb 0x41 b) (leb b 0x46) h), leb-true b 0x46 (and_right (leb 0x41 b) (leb b 0x46) h))
 
-pub digit_from : (b : ℕ) → is_digit b ≡ true → 0x30 ≤ b
-digit_from b e = ⊎_elim (λ (q : (0x30 ≤ b) × (b ≤ 0x39)). q.0) (λ (q : (0x41 ≤ b) × (b ≤ 0x46)). let h = q.0 in omega arith) (low_or_high b e)
-
-pub digit_letter : (b : ℕ) → is_digit b ≡ true → 0x39 < b → 0x41 ≤ b
-digit_letter b e l = ⊎_elim (λ (q : (0x30 ≤ b) × (b ≤ 0x39)). let h = q.1 in absurd (omega arith)) (λ (q : (0x41 ≤ b) × (b ≤ 0x46)). q.0) (low_or_high b e)
-
-pub value_low : (b : ℕ) → b ≤ 0x39 → b - 0x30 ≡ value b
-value_low b h = rw (le-leb b 0x39 h)
-
-pub value_high : (b : ℕ) → is_digit b ≡ true → 0x39 < b → b - 0x41 + 10 ≡ value b
-value_high b e h = let l = digit_letter b e h in rw (lt-leb b 0x39 h) (omega arith)
-
 pub value_small : (b : ℕ) → is_digit b ≡ true → value b ≤ 15
 value_small b e =
     ⊎_elim
     (λ (q : (0x30 ≤ b) × (b ≤ 0x39)). let h = q.1 in rw (le-leb b 0x39 h) (omega arith))
     (λ (q : (0x41 ≤ b) × (b ≤ 0x46)). let h = q.0 in let k = q.1 in rw (lt-leb b 0x39 (omega arith)) (omega arith))
     (low_or_high b e)
-
-pub ruleset values = (digit_from, digit_letter, value_low, value_high)
 
 -- ---- digits at places, and from a place on
 pub digit_at : (l : List ℕ) (i : ℕ) → all_digits l ≡ true → i < length l → is_digit (get_or l i 0) ≡ true

@@ -38,5 +38,4 @@ module _ {a : Shape} {f : List ℕ} {end : ℕ} (e : RunEnd a f end) where
       let n : Answers (area_of a) r k (run_of a f) x g = rw (d, e.run) at m in
       rw z (record { answer = n.answer; flash = ap (λ (u : List ℕ). g ++ u) e.rest ∙ ap (λ (u : List ℕ). u ++ drop (run_words a) f) n.flash })
 
-
 pub ruleset requests = (length-take-le, run_inside, run_made)

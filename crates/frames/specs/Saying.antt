@@ -1,8 +1,8 @@
 -- A text written byte by byte into a buffer that may be too short for it, from one of its bytes on: definitions and laws, and at last that
 -- what was written is the piece of the text that the buffer has room for. Assumes nothing.
-use Rattle.std.specs.Prelude.{◌≡◌, refl, Bool, true, false, cond, ◌&&◌, ◌||◌, ℕ, suc, zero, ◌+◌, ◌-◌, ◌/◌, ◌%◌, ◌≤◌, ◌<◌, min, length, get_or, take, drop, set, ltb, eqb}
+use Rattle.std.specs.Prelude.{◌≡◌, refl, Bool, true, false, cond, ◌&&◌, ◌||◌, ℕ, suc, zero, ◌+◌, ◌-◌, ◌*◌, ◌/◌, ◌%◌, ◌^◌, ◌≤◌, ◌<◌, length, get_or, take, drop, set, ltb, eqb}
 use Rattle.std.proofs.Math.Path.{ap}
-use Rattle.std.proofs.Common.{sym, ◌∙◌, ⊎_elim, zero-le, arith, add-one, length-set, length-drop, take-append-drop, drop_of_length-le, take_all, drop-cons, take-suc-set, drop-set-lt}
+use Rattle.std.proofs.Common.{sym, ◌∙◌, ⊎_elim, arith, add-one, length-set, take-append-drop, drop_of_length-le, drop-cons, take-suc-set, drop-set-lt}
 use mathlib.Core.List.{List, [], ◌∷◌, ◌++◌, append_assoc}
 use Rattle.std.proofs.Math.Bool.{or-true, or-false}
 use Rattle.std.proofs.Math.Seq.{take-nil, drop-nil}
@@ -10,15 +10,14 @@ use Rattle.std.specs.Int.Bits.{bit_and}
 use borrow.Author.Tests.{lt-ltb, le-ltb}
 use Rattle.flash.specs.Laws.{settled, le_or_lt}
 use Rattle.rules.specs.declared.Area.{Area}
-use Rattle.rules.specs.Words.{handle_of, is_live}
+use Rattle.rules.specs.Words.{is_live}
 use Rattle.rules.specs.Areas.{Entry, entries}
 use Rattle.rules.specs.Refusals.{wrong_geometry}
 use Rattle.rules.specs.Search.{matches}
-use Rattle.entries.specs.declared.Cursor.{Cursor}
-use Rattle.entries.specs.Ahead.{ahead, behind, entry_of, Sound, Settled, ahead_on, ahead_end, fewer}
+use Rattle.entries.specs.declared.walk.Header.{Header}
+use Rattle.entries.specs.Ahead.{Heads}
 use Rattle.area.specs.Checks.{geometry_right}
 use Rattle.frames.specs.declared.Shape.{Shape}
-use Rattle.frames.specs.declared.Tail.{Tail}
 use Rattle.frames.specs.declared.Reply.{Reply}
 use Rattle.frames.specs.declared.Said.{Said}
 use Rattle.frames.specs.declared.saying.Pen.{Pen}
@@ -26,136 +25,153 @@ use Rattle.frames.specs.Frames.{digit, two_digits, four_digits, eight_digits, ei
 
 -- ---- a pen on its buffer
 pub record Sheet : Type 0 where
-  pub pen : Pen
+  pub skip : ℕ
+  pub used : ℕ
+  pub more : Bool
   pub buffer : List ℕ
 
 abbrev sheet : ℕ → ℕ → Bool → List ℕ → Sheet
-sheet skip used more f = record { pen = record { skip = skip; used = used; more = more }; buffer = f }
+sheet skip used more f = record { skip = skip; used = used; more = more; buffer = f }
+
+abbrev pub sheet_of : Pen → Sheet
+sheet_of p = sheet p.skip p.used p.more p.out.now
 
 -- a byte is passed over; or it is written, where there is room; or it is left out
 unfoldable pub mark : ℕ → Sheet → Sheet
 mark b s =
-    let p = s.pen in
     let f = s.buffer in
-    cond (ltb 0 p.skip) (sheet (p.skip - 1) p.used p.more f)
-    (cond (ltb p.used (length f)) (sheet 0 (suc p.used) p.more (set f p.used b)) (sheet 0 p.used true f))
+    cond (ltb 0 s.skip) (sheet (s.skip - 1) s.used s.more f)
+    (cond (ltb s.used (length f)) (sheet 0 (suc s.used) s.more (set f s.used b)) (sheet 0 s.used true f))
 
 abbrev pub marks : List ℕ → Sheet → Sheet
 marks [] s = s
 marks (b ∷ t) s = marks t (mark b s)
 
--- The text t was written with the pen p on the buffer f: they are the pen q and the buffer g then.
-pub record Wrote (t : List ℕ) (p : Pen) (f : List ℕ) (q : Pen) (g : List ℕ) : Type 0 where
-  pub same : record { pen = q; buffer = g } ≡ marks t (record { pen = p; buffer = f })
+-- The text t was written with the pen p: it is the pen q then.
+pub record Wrote (t : List ℕ) (p q : Pen) : Type 0 where
+  pub same : sheet_of q ≡ marks t (sheet_of p)
 
 -- ---- one byte
 module _ (b : ℕ) (s : Sheet) where
-  mark_passed : 0 < s.pen.skip → sheet (s.pen.skip - 1) s.pen.used s.pen.more s.buffer ≡ mark b s
+  mark_passed : 0 < s.skip → sheet (s.skip - 1) s.used s.more s.buffer ≡ mark b s
   unfolding mark
-  mark_passed h = rw (lt-ltb 0 s.pen.skip h)
+  mark_passed h = rw (lt-ltb 0 s.skip h)
 
-  mark_room : s.pen.skip ≤ 0 → s.pen.used < length s.buffer → sheet 0 (suc s.pen.used) s.pen.more (set s.buffer s.pen.used b) ≡ mark b s
+  mark_room : s.skip ≤ 0 → s.used < length s.buffer → sheet 0 (suc s.used) s.more (set s.buffer s.used b) ≡ mark b s
   unfolding mark
-  mark_room h l = rw (le-ltb 0 s.pen.skip h, lt-ltb s.pen.used (length s.buffer) l)
+  mark_room h l = rw (le-ltb 0 s.skip h, lt-ltb s.used (length s.buffer) l)
 
-  mark_full : s.pen.skip ≤ 0 → length s.buffer ≤ s.pen.used → sheet 0 s.pen.used true s.buffer ≡ mark b s
+  mark_full : s.skip ≤ 0 → length s.buffer ≤ s.used → sheet 0 s.used true s.buffer ≡ mark b s
   unfolding mark
-  mark_full h l = rw (le-ltb 0 s.pen.skip h, le-ltb s.pen.used (length s.buffer) l)
+  mark_full h l = rw (le-ltb 0 s.skip h, le-ltb s.used (length s.buffer) l)
 
-  -- the buffer keeps its length
-  mark_length : length (mark b s).buffer ≡ length s.buffer
-  mark_length =
-      ⊎_elim
-      (λ (h : 1 ≤ s.pen.skip). rw (← mark_passed h))
-      (λ (h : s.pen.skip < 1).
-      ⊎_elim
-      (λ (l : length s.buffer ≤ s.pen.used). rw (← mark_full (omega arith) l))
-      (λ (l : s.pen.used < length s.buffer). rw (← mark_room (omega arith) l) (length-set s.buffer s.pen.used b))
-      (le_or_lt (length s.buffer) s.pen.used))
-      (le_or_lt 1 s.pen.skip)
+module _ {b : ℕ} {p q : Pen} where
+  pub put_passed : 0 < p.skip → q.skip ≡ p.skip - 1 → q.used ≡ p.used → q.more ≡ p.more → q.out.now ≡ p.out.now → Wrote (b ∷ []) p q
+  put_passed h k u m o = record { same = rw (k, u, m, o) (mark_passed b (sheet_of p) h) }
 
-module _ {b : ℕ} {p : Pen} {f : List ℕ} where
-  pub put_passed : 0 < p.skip → Wrote (b ∷ []) p f (record { skip = p.skip - 1; used = p.used; more = p.more }) f
-  put_passed h = record { same = mark_passed b (record { pen = p; buffer = f }) h }
+  pub put_room : p.skip ≤ 0 → p.used < length p.out.now → q.skip ≡ p.skip → q.used ≡ p.used + 1 → q.more ≡ p.more → q.out.now ≡ set p.out.now p.used b → Wrote (b ∷ []) p q
+  put_room h l k u m o =
+      let z : p.skip ≡ 0 = omega arith in
+      let e : sheet_of q ≡ sheet 0 (suc p.used) p.more (set p.out.now p.used b) = rw (k, z, u, m, o, add-one) in
+      record { same = e ∙ mark_room b (sheet_of p) h l }
 
-  pub put_room : p.skip ≤ 0 → p.used < length f → Wrote (b ∷ []) p f (record { skip = 0; used = p.used + 1; more = p.more }) (set f p.used b)
-  put_room h l = rw add-one (record { same = mark_room b (record { pen = p; buffer = f }) h l })
-
-  pub put_full : p.skip ≤ 0 → length f ≤ p.used → Wrote (b ∷ []) p f (record { skip = 0; used = p.used; more = true }) f
-  put_full h l = record { same = mark_full b (record { pen = p; buffer = f }) h l }
-
-pub ruleset puts = (put_passed, put_room, put_full)
+  pub put_full : p.skip ≤ 0 → length p.out.now ≤ p.used → q.skip ≡ p.skip → q.used ≡ p.used → q.more ≡ true → q.out.now ≡ p.out.now → Wrote (b ∷ []) p q
+  put_full h l k u m o =
+      let z : p.skip ≡ 0 = omega arith in
+      let e : sheet_of q ≡ sheet 0 p.used true p.out.now = rw (k, z, u, m, o) in
+      record { same = e ∙ mark_full b (sheet_of p) h l }
 
 -- ---- texts one behind the other
 marks_append : (x y : List ℕ) (s : Sheet) → marks (x ++ y) s ≡ marks y (marks x s)
 marks_append [] y s = refl
 marks_append (b ∷ x) y s = marks_append x y (mark b s)
 
-marks_length : (t : List ℕ) (s : Sheet) → length (marks t s).buffer ≡ length s.buffer
-marks_length [] s = refl
-marks_length (b ∷ t) s = marks_length t (mark b s) ∙ mark_length b s
-
-pub wrote_none : {p : Pen} {f : List ℕ} → Wrote [] p f p f
+pub wrote_none : {p : Pen} → Wrote [] p p
 wrote_none = record { same = refl }
 
-pub wrote_append : {x y : List ℕ} {p q r : Pen} {f g h : List ℕ} → Wrote x p f q g → Wrote y q g r h → Wrote (x ++ y) p f r h
-wrote_append {x} {y} {p} {f = f} u v = record { same = v.same ∙ ap (marks y) u.same ∙ sym (marks_append x y (record { pen = p; buffer = f })) }
-
-pub wrote_length : {t : List ℕ} {p q : Pen} {f g : List ℕ} → Wrote t p f q g → length g ≡ length f
-wrote_length {t} {p} {f = f} w = ap (λ (s : Sheet). length s.buffer) w.same ∙ marks_length t (record { pen = p; buffer = f })
+pub wrote_append : {x y : List ℕ} {p q r : Pen} → Wrote x p q → Wrote y q r → Wrote (x ++ y) p r
+wrote_append {x} {y} {p} u v = record { same = v.same ∙ ap (marks y) u.same ∙ sym (marks_append x y (sheet_of p)) }
 
 -- ---- digits
-pub digit_low : (n : ℕ) → n < 10 → 48 + n ≡ digit n
-digit_low n h = rw (lt-ltb n 10 h)
+-- the last n digits of a number
+abbrev pub last_of : ℕ → ℕ → List ℕ
+last_of zero x = []
+last_of (suc n) x = digit (x / 2 ^ (4 * n) % 16) ∷ last_of n x
 
-pub digit_high : (n : ℕ) → 10 ≤ n → 55 + n ≡ digit n
-digit_high n h = rw (le-ltb n 10 h)
+unfoldable pub digits : ℕ → ℕ → List ℕ
+digits n x = last_of n x
 
-module _ (n : ℕ) {p q r : Pen} {f g h : List ℕ} where
-  pub wrote_two : {x y : ℕ} → Wrote (x ∷ []) p f q g → Wrote (y ∷ []) q g r h → x ≡ digit (n / 16 % 16) → y ≡ digit (n % 16) → Wrote (two_digits n) p f r h
-  unfolding two_digits
-  wrote_two u v d e = rw (← d, ← e) (wrote_append u v)
+pub digits_two : (x : ℕ) → digits 2 x ≡ two_digits x
+unfolding digits two_digits
+digits_two x = let a : x / 1 % 16 ≡ x % 16 = omega arith in rw a
 
-  pub wrote_four : Wrote (two_digits (n / 256)) p f q g → Wrote (two_digits n) q g r h → Wrote (four_digits n) p f r h
-  unfolding four_digits
-  wrote_four u v = wrote_append u v
+pub digits_four : (x : ℕ) → digits 4 x ≡ four_digits x
+unfolding digits four_digits two_digits
+digits_four x =
+    let a : x / 1 % 16 ≡ x % 16 = omega arith in
+    let b : x / 4096 % 16 ≡ x / 256 / 16 % 16 = omega arith in
+    rw (a, b)
 
-  pub wrote_eight : Wrote (four_digits (n / 65536)) p f q g → Wrote (four_digits n) q g r h → Wrote (eight_digits n) p f r h
-  unfolding eight_digits
-  wrote_eight u v = wrote_append u v
+pub digits_eight : (x : ℕ) → digits 8 x ≡ eight_digits x
+unfolding digits eight_digits four_digits two_digits
+digits_eight x =
+    let a : x / 1 % 16 ≡ x % 16 = omega arith in
+    let b : x / 4096 % 16 ≡ x / 256 / 16 % 16 = omega arith in
+    let c : x / 1048576 % 16 ≡ x / 65536 / 16 % 16 = omega arith in
+    let d : x / 16777216 % 16 ≡ x / 65536 / 256 % 16 = omega arith in
+    let e : x / 268435456 % 16 ≡ x / 65536 / 256 / 16 % 16 = omega arith in
+    rw (a, b, c, d, e)
 
-pub ruleset digit_texts = (digit_low, digit_high, wrote_two, wrote_four, wrote_eight)
+-- ---- a text written part by part: with what is still to be written of it, it is what has been begun with the pen p₀
+pub record Writing (t : List ℕ) (p₀ : Pen) (rest : List ℕ) (p : Pen) : Type 0 where
+  pub end : (q : Pen) → Wrote rest p q → Wrote t p₀ q
 
--- ---- a text written part by part: with what is still to be written of it, it is what has been begun with the pen p₀ on the buffer f₀
-pub record Writing (t : List ℕ) (p₀ : Pen) (f₀ : List ℕ) (rest : List ℕ) (p : Pen) (f : List ℕ) : Type 0 where
-  pub end : (q : Pen) (g : List ℕ) → Wrote rest p f q g → Wrote t p₀ f₀ q g
-  pub long : length f ≡ length f₀
+pub writing_start : {t : List ℕ} {p : Pen} → Writing t p t p
+writing_start = record { end = λ q w. w }
 
-pub writing_start : {t : List ℕ} {p : Pen} {f : List ℕ} → Writing t p f t p f
-writing_start = record { end = λ q g w. w; long = refl }
+module _ {t : List ℕ} {p₀ p : Pen} where
+  writing_on : {q : Pen} (x rest : List ℕ) → Writing t p₀ (x ++ rest) p → Wrote x p q → Writing t p₀ rest q
+  writing_on x rest u w = record { end = λ r v. u.end r (wrote_append w v) }
 
-module _ {t : List ℕ} {p₀ p : Pen} {f₀ f : List ℕ} where
-  writing_on : {q : Pen} {g : List ℕ} (x rest : List ℕ) → Writing t p₀ f₀ (x ++ rest) p f → Wrote x p f q g → Writing t p₀ f₀ rest q g
-  writing_on x rest u w = record { end = λ r h v. u.end r h (wrote_append w v); long = wrote_length w ∙ u.long }
+  writing_end : Writing t p₀ [] p → Wrote t p₀ p
+  writing_end u = u.end p wrote_none
 
-  writing_end : Writing t p₀ f₀ [] p f → Wrote t p₀ f₀ p f
-  writing_end u = u.end p f wrote_none
+-- so many digits of a number are left
+pub record DigitsLeft (n x : ℕ) (p₀ : Pen) (i : ℕ) (p : Pen) : Type 0 where
+  pub buffer : p.out.ghost_name ≡ p₀.out.ghost_name
+  pub writing : Writing (digits n x) p₀ (digits i x) p
+
+pub digits_start : {n x : ℕ} {p : Pen} → DigitsLeft n x p n p
+digits_start = record { buffer = refl; writing = writing_start }
+
+module _ {n x i : ℕ} {p₀ p : Pen} (u : DigitsLeft n x p₀ i p) where
+  pub digits_on : {j b : ℕ} {q : Pen} → Wrote (b ∷ []) p q → q.out.ghost_name ≡ p.out.ghost_name → b ≡ digit (x / 2 ^ (4 * j) % 16) → i ≡ suc j → DigitsLeft n x p₀ j q
+  unfolding digits
+  digits_on {j} {b} v g e q =
+      let d : digits i x ≡ (b ∷ []) ++ digits j x = rw (q, e) in
+      record { buffer = g ∙ u.buffer; writing = writing_on (b ∷ []) (digits j x) (rw d at u.writing) v }
+
+  pub digits_end : i ≡ 0 → Wrote (digits n x) p₀ p
+  unfolding digits
+  digits_end z = writing_end (rw z at u.writing)
+
+pub ruleset some_digits = (digits_start, digits_on, digits_end)
 
 -- the words of a list from one on are left
-pub record WordsLeft (ws : List ℕ) (p₀ : Pen) (f₀ : List ℕ) (i : ℕ) (p : Pen) (f : List ℕ) : Type 0 where
-  pub writing : Writing (eights ws) p₀ f₀ (eights (drop i ws)) p f
-  pub near : i ≤ length ws
+pub record WordsLeft (ws : List ℕ) (p₀ : Pen) (i : ℕ) (p : Pen) : Type 0 where
+  pub buffer : p.out.ghost_name ≡ p₀.out.ghost_name
+  pub writing : Writing (eights ws) p₀ (eights (drop i ws)) p
 
-pub words_start : {ws : List ℕ} {p : Pen} {f : List ℕ} → WordsLeft ws p f 0 p f
-words_start = record { writing = writing_start; near = zero-le }
+pub words_start : {ws : List ℕ} {p : Pen} → WordsLeft ws p 0 p
+words_start = record { buffer = refl; writing = writing_start }
 
-module _ {ws : List ℕ} {i : ℕ} {p₀ p : Pen} {f₀ f : List ℕ} (u : WordsLeft ws p₀ f₀ i p f) where
-  pub words_on : {w : ℕ} {q : Pen} {g : List ℕ} → Wrote (eight_digits w) p f q g → i < length ws → w ≡ get_or ws i 0 → WordsLeft ws p₀ f₀ (i + 1) q g
-  words_on {w} v h e =
-      let d : eights (drop i ws) ≡ eight_digits w ++ eights (drop (suc i) ws) = rw (drop-cons ws i 0 h, e) in
-      rw add-one (record { writing = writing_on (eight_digits w) (eights (drop (suc i) ws)) (rw d at u.writing) v; near = h })
+module _ {ws : List ℕ} {i : ℕ} {p₀ p : Pen} (u : WordsLeft ws p₀ i p) where
+  pub words_on : {w : ℕ} {q : Pen} → Wrote (digits 8 w) p q → q.out.ghost_name ≡ p.out.ghost_name → i < length ws → w ≡ get_or ws i 0 → WordsLeft ws p₀ (i + 1) q
+  words_on {w} v g h e =
+      let d : eights (drop i ws) ≡ digits 8 w ++ eights (drop (suc i) ws) = rw (digits_eight, drop-cons ws i 0 h, e) in
+      rw add-one (record { buffer = g ∙ u.buffer; writing = writing_on (digits 8 w) (eights (drop (suc i) ws)) (rw d at u.writing) v })
 
-  pub words_end : length ws ≤ i → Wrote (eights ws) p₀ f₀ p f
+  pub words_end : length ws ≤ i → Wrote (eights ws) p₀ p
   words_end h = let d : drop i ws ≡ [] = drop_of_length-le ws h in writing_end (rw d at u.writing)
 
 pub ruleset lists = (words_start, words_on, words_end)
@@ -165,13 +181,20 @@ pub ruleset lists = (words_start, words_on, words_end)
 unfoldable pub four_if : Bool → ℕ → List ℕ
 four_if b n = cond b (four_digits n) []
 
-pub four_wanted : {b : Bool} (n : ℕ) {p q : Pen} {f g : List ℕ} → Wrote (four_digits n) p f q g → b ≡ true → Wrote (four_if b n) p f q g
-unfolding four_if
-four_wanted n w e = rw e w
+-- a handle's, if it is a live one and a filter lets it through
+abbrev pub passed : ℕ → ℕ → ℕ → List ℕ
+passed mask pattern h = four_if (is_live h && eqb (bit_and h mask) (bit_and pattern mask)) h
 
-pub four_unwanted : {b : Bool} (n : ℕ) {p : Pen} {f : List ℕ} → b ≡ false → Wrote (four_if b n) p f p f
-unfolding four_if
-four_unwanted n e = rw e wrote_none
+module _ {b : Bool} {p : Pen} (mask pattern h : ℕ) (e : b ≡ is_live h && eqb (bit_and h mask) (bit_and pattern mask)) where
+  pub handle_passed : {q : Pen} → b ≡ true → Wrote (digits 4 h) p q → Wrote (passed mask pattern h) p q
+  unfolding four_if
+  handle_passed t w = rw (← e, t) (rw digits_four at w)
+
+  pub handle_left : b ≡ false → Wrote (passed mask pattern h) p p
+  unfolding four_if
+  handle_left t = rw (← e, t) wrote_none
+
+pub ruleset one_handle = (handle_passed, handle_left)
 
 fours_cons : (mask pattern : ℕ) (e : Entry) (es : List Entry)
     → fours (handles mask pattern (e ∷ es)) ≡ four_if (matches mask pattern e) e.handle ++ fours (handles mask pattern es)
@@ -182,51 +205,26 @@ fours_cons mask pattern e es = go (matches mask pattern e)
     go true = refl
     go false = refl
 
--- those of the entries from a cursor on are left
-pub record HandlesLeft (mask pattern : ℕ) (a : Area) (f : List ℕ) (p₀ : Pen) (o₀ : List ℕ) (c : Cursor) (p : Pen) (o : List ℕ) : Type 0 where
-  pub sound : Sound a f c
-  pub writing : Writing (fours (handles mask pattern (entries a f))) p₀ o₀ (fours (handles mask pattern (ahead a f c))) p o
+-- those of the entries ds are left
+pub record HandlesLeft (mask pattern : ℕ) (es ds : List Entry) (p₀ p : Pen) : Type 0 where
+  pub buffer : p.out.ghost_name ≡ p₀.out.ghost_name
+  pub writing : Writing (fours (handles mask pattern es)) p₀ (fours (handles mask pattern ds)) p
 
-pub handles_start : {mask pattern : ℕ} {a : Area} {f : List ℕ} {c : Cursor} {p : Pen} {o : List ℕ} → Settled a f (entries a f) c → HandlesLeft mask pattern a f p o c p o
-handles_start s = record { sound = s.sound; writing = rw s.same writing_start }
+pub handles_start : {mask pattern : ℕ} {es ds : List Entry} {p : Pen} → ds ≡ es → HandlesLeft mask pattern es ds p p
+handles_start e = record { buffer = refl; writing = rw e writing_start }
 
-module _ {mask pattern : ℕ} {a : Area} {f : List ℕ} {p₀ p : Pen} {o₀ o : List ℕ} {c : Cursor} (u : HandlesLeft mask pattern a f p₀ o₀ c p o) where
-  pub handles_on : {d : Cursor} {q : Pen} {g : List ℕ} {b : Bool} {k : ℕ} → Settled a f (behind a f c) d → Wrote (four_if b k) p o q g → (c.length ≡ 0 → ⊥)
-      → k ≡ handle_of (get_or f c.place 0) → b ≡ is_live k && eqb (bit_and k mask) (bit_and pattern mask) → HandlesLeft mask pattern a f p₀ o₀ d q g
-  unfolding entry_of
-  handles_on {b = b} {k} s w z e q =
-      let m : matches mask pattern (entry_of f c) ≡ b = rw (q, e) in
-      let x : fours (handles mask pattern (ahead a f c)) ≡ four_if b k ++ fours (handles mask pattern (behind a f c)) =
-      ap (λ (es : List Entry). fours (handles mask pattern es)) (ahead_on u.sound z) ∙ fours_cons mask pattern (entry_of f c) (behind a f c) ∙ rw (m, ← e) in
-      record { sound = s.sound; writing = rw s.same (writing_on (four_if b k) (fours (handles mask pattern (behind a f c))) (rw x at u.writing) w) }
+module _ {mask pattern : ℕ} {es ds : List Entry} {p₀ p : Pen} (u : HandlesLeft mask pattern es ds p₀ p) where
+  pub handles_on : {us : List Entry} {q : Pen} {h : Header} → Heads ds h us → Wrote (passed mask pattern h.handle) p q → q.out.ghost_name ≡ p.out.ghost_name → HandlesLeft mask pattern es us p₀ q
+  handles_on {us} {h = h} x w g =
+      let i : x.entry.handle ≡ h.handle = ap (λ (d : Header). d.handle) x.header in
+      let y : fours (handles mask pattern ds) ≡ passed mask pattern h.handle ++ fours (handles mask pattern us) =
+      ap (λ (ds : List Entry). fours (handles mask pattern ds)) x.first ∙ fours_cons mask pattern x.entry us ∙ rw i in
+      record { buffer = g ∙ u.buffer; writing = writing_on (passed mask pattern h.handle) (fours (handles mask pattern us)) (rw y at u.writing) w }
 
-  pub handles_end : c.length ≡ 0 → Wrote (fours (handles mask pattern (entries a f))) p₀ o₀ p o
-  handles_end z = let x : ahead a f c ≡ [] = ahead_end u.sound z in writing_end (rw x at u.writing)
+  pub handles_end : ds ≡ [] → Wrote (fours (handles mask pattern es)) p₀ p
+  handles_end z = writing_end (rw z at u.writing)
 
-pub ruleset listings = (fewer, four_wanted, four_unwanted, handles_start, handles_on, handles_end)
-
--- ---- words behind a place of the flash
-module _ (f : List ℕ) (place words : ℕ) where
-  pub part_none : length f ≤ place → [] ≡ take words (drop (suc place) f)
-  part_none h =
-      let l : length f ≤ suc place = omega arith in
-      let d : drop (suc place) f ≡ [] = drop_of_length-le f l in
-      let n : take {A = ℕ} words [] ≡ [] = take-nil words in
-      rw (d, n)
-
-  pub part_cut : {k : ℕ} → k ≡ min words (length f - (place + 1)) → take (place + 1 + k - (place + 1)) (drop (place + 1) f) ≡ take words (drop (suc place) f)
-  part_cut {k} e =
-      let c : place + 1 + k - (place + 1) ≡ k = omega arith in
-      rw (c, add-one place)
-      (⊎_elim
-      (λ (h : words ≤ length f - suc place). let d : k ≡ words = omega arith in rw d)
-      (λ (h : length f - suc place < words).
-      let l : length (drop (suc place) f) ≤ k = omega (arith, length-drop (suc place) f) in
-      let m : length (drop (suc place) f) ≤ words = omega (arith, length-drop (suc place) f) in
-      take_all k (drop (suc place) f) l ∙ sym (take_all words (drop (suc place) f) m))
-      (le_or_lt words (length f - suc place)))
-
-pub ruleset parts = (part_none, part_cut)
+pub ruleset listings = (handles_start, handles_on, handles_end)
 
 -- ---- the tail of an answer
 -- the handles of a shape's area, by what a function has found of its run
@@ -235,45 +233,35 @@ module _ {run : List ℕ} {area : Area} {b : Bool} (a : Shape) (f : List ℕ) (m
   unfolding list_handles
   by_run = rw (q, is, cut)
 
-  pub none_listed : {p : Pen} {o : List ℕ} → b ≡ true → Wrote (fours (list_handles a mask pattern f)) p o p o
+  pub none_listed : {p : Pen} → b ≡ true → Wrote (fours (list_handles a mask pattern f)) p p
   none_listed t = rw (by_run, t) wrote_none
 
-  pub handles_listed : {p r : Pen} {o g : List ℕ} → b ≡ false → Wrote (fours (handles mask pattern (entries area run))) p o r g → Wrote (fours (list_handles a mask pattern f)) p o r g
-  handles_listed t w = rw (by_run, t) w
+  pub handles_listed : {m k : ℕ} {p r : Pen} → b ≡ false → Wrote (fours (handles m k (entries area run))) p r → m ≡ mask → k ≡ pattern → Wrote (fours (list_handles a mask pattern f)) p r
+  handles_listed t w x y = rw (by_run, t, ← x, ← y) w
 
-module _ {t : Tail} (f : List ℕ) {p : Pen} {o : List ℕ} where
-  pub tail_nothing : t ≡ Tail.Nothing → Wrote (tail_bytes t f) p o p o
-  tail_nothing e = rw e wrote_none
-
-  pub tail_words : {place n : ℕ} {ws : List ℕ} {q : Pen} {g : List ℕ} → t ≡ Tail.Words place n → ws ≡ take n (drop (suc place) f) → Wrote (eights ws) p o q g → Wrote (tail_bytes t f) p o q g
-  tail_words e d w = rw (e, ← d) w
-
-  pub tail_handles : {a : Shape} {mask pattern : ℕ} {q : Pen} {g : List ℕ} → t ≡ Tail.Handles a mask pattern → Wrote (fours (list_handles a mask pattern f)) p o q g → Wrote (tail_bytes t f) p o q g
-  tail_handles e w = rw e w
-
-pub ruleset tails = (geometry_right, none_listed, handles_listed, tail_nothing, tail_words, tail_handles)
+pub ruleset tails = (geometry_right, none_listed)
 
 -- ---- what was written in all
 -- of a text on the sheet s that is the sheet z then: behind the bytes that were used comes the piece that there was room for
 abbrev rest : List ℕ → Sheet → List ℕ
-rest t s = drop s.pen.skip t
+rest t s = drop s.skip t
 
 abbrev room : Sheet → ℕ
-room s = length s.buffer - s.pen.used
+room s = length s.buffer - s.used
 
 record Filled (t : List ℕ) (s z : Sheet) : Type 0 where
-  used : z.pen.used ≡ s.pen.used + length (take (room s) (rest t s))
-  more : z.pen.more ≡ (s.pen.more || ltb (room s) (length (rest t s)))
-  buffer : z.buffer ≡ take s.pen.used s.buffer ++ (take (room s) (rest t s) ++ drop z.pen.used s.buffer)
+  used : z.used ≡ s.used + length (take (room s) (rest t s))
+  more : z.more ≡ (s.more || ltb (room s) (length (rest t s)))
+  buffer : z.buffer ≡ take s.used s.buffer ++ (take (room s) (rest t s) ++ drop z.used s.buffer)
 
 filled_none : (s : Sheet) → Filled [] s s
 filled_none s =
-    let d : drop {A = ℕ} s.pen.skip [] ≡ [] = drop-nil s.pen.skip in
+    let d : drop {A = ℕ} s.skip [] ≡ [] = drop-nil s.skip in
     let n : take {A = ℕ} (room s) [] ≡ [] = take-nil (room s) in
     record {
       used = rw (d, n) (omega arith);
-      more = rw (d, le-ltb (room s) 0 (omega arith)) (sym (or-false s.pen.more));
-      buffer = rw (d, n) (sym (take-append-drop s.pen.used s.buffer));
+      more = rw (d, le-ltb (room s) 0 (omega arith)) (sym (or-false s.more));
+      buffer = rw (d, n) (sym (take-append-drop s.used s.buffer));
     }
 
 ltb_suc : (n l : ℕ) → ltb (suc n) (suc l) ≡ ltb n l
@@ -291,12 +279,12 @@ module _ (b : ℕ) (t : List ℕ) (u : ℕ) (m : Bool) (f : List ℕ) {z : Sheet
   filled_room h r =
       let l : length (set f u b) ≡ length f = length-set f u b in
       let e : length f - u ≡ suc (length f - suc u) = omega arith in
-      let c : z.pen.used ≡ suc u + length (take (length f - suc u) t) = rw l at r.used in
-      let a : u < z.pen.used = omega arith in
+      let c : z.used ≡ suc u + length (take (length f - suc u) t) = rw l at r.used in
+      let a : u < z.used = omega arith in
       record {
         used = rw e (omega arith);
         more = rw (e, ltb_suc (length f - suc u) (length t)) (rw l at r.more);
-        buffer = rw e (rw (l, take-suc-set f u b h, drop-set-lt z.pen.used f u b a, append_assoc) at r.buffer);
+        buffer = rw e (rw (l, take-suc-set f u b h, drop-set-lt z.used f u b a, append_assoc) at r.buffer);
       }
 
   filled_full : length f ≤ u → Filled t (sheet 0 u true f) z → Filled (b ∷ t) (sheet 0 u m f) z
@@ -316,20 +304,21 @@ filled (b ∷ t) zero u m f =
     (le_or_lt (length f) u)
 
 -- from a byte on, with the whole buffer to write in
-pub wrote_says : {t : List ℕ} {from : ℕ} {f g : List ℕ} {q : Pen} → Wrote t (record { skip = from; used = 0; more = false }) f q g
-    → Says t from f (record { count = q.used; more = q.more }) g
-wrote_says {t} {from} {f} {g} {q} w =
-    let r : Filled t (sheet from 0 false f) (record { pen = q; buffer = g }) = rw w.same (filled t from 0 false f) in
+pub wrote_says : {t : List ℕ} {p q : Pen} → Wrote t p q → p.used ≡ 0 → p.more ≡ false → Says t p.skip p.out.now (record { count = q.used; more = q.more }) q.out.now
+wrote_says {t} {p} {q} w u m =
+    let f = p.out.now in
+    let x : sheet_of q ≡ marks t (sheet p.skip 0 false f) = rw (u, m) at w.same in
+    let r : Filled t (sheet p.skip 0 false f) (sheet_of q) = rw x (filled t p.skip 0 false f) in
     let e : length f - 0 ≡ length f = omega arith in
-    let c : q.used ≡ 0 + length (piece_of t from (length f)) = rw e at r.used in
+    let c : q.used ≡ 0 + length (piece_of t p.skip (length f)) = rw e at r.used in
     record { count = omega arith; more = rw e at r.more; buffer = rw e at r.buffer }
 
 -- an answer
-pub says_bytes : (a : Reply) (l : List ℕ) {from : ℕ} {f g h i j : List ℕ} {p q r s : Pen}
-    → Wrote (two_digits a.number) (record { skip = from; used = 0; more = false }) f p g → Wrote (four_digits a.stores) p g q h → Wrote (tail_bytes a.tail l) q h r i
-    → Wrote (newline ∷ []) r i s j → Says (bytes a l) from f (record { count = s.used; more = s.more }) j
+pub says_bytes : (a : Reply) (l : List ℕ) {p q r s t : Pen} {n : ℕ} {o : List ℕ} → Wrote (digits 2 n) p q → Wrote (digits 4 a.stores) q r → Wrote (tail_bytes a.tail l) r s
+    → Wrote (newline ∷ []) s t → p.used ≡ 0 → p.more ≡ false → n ≡ a.number → o ≡ t.out.now → Says (bytes a l) p.skip p.out.now (record { count = t.used; more = t.more }) o
 unfolding bytes
-says_bytes a l u v w x = wrote_says (wrote_append u (wrote_append v (wrote_append w x)))
+says_bytes a l u v w x e m k d =
+    rw d (wrote_says (wrote_append (rw digits_two at (rw k at u)) (wrote_append (rw digits_four at v) (wrote_append w x))) e m)
 
 -- one outcome, and no other
 pub says_settles : {t : List ℕ} {from : ℕ} {f g h : List ℕ} {r s : Said} → Says t from f r g → Says t from f s h → (r ≡ s) × (g ≡ h)

@@ -1,19 +1,14 @@
 -- The area of a shape, and where its run ends in a flash that may be too short for it: definition and laws. Assumes nothing.
 use Rattle.std.specs.Prelude.{◌≡◌, List, ℕ, ◌+◌, ◌*◌, ◌≤◌, ◌<◌, min}
 use Rattle.std.proofs.Math.Path.{sym, ap}
-use Rattle.std.proofs.Common.{◌∙◌, ⊎_elim, mul-le-mul_right, drop_of_length-le, take_all, Fits}
+use Rattle.std.proofs.Common.{◌∙◌, ⊎_elim, drop_of_length-le, take_all}
 use native.Mathlib.Omega.{arith}
 use Rattle.std.proofs.Math.ListN.{length, take, drop}
 use Rattle.std.proofs.Math.Seq.{take-length, drop-length}
-use Rattle.std.specs.Int.{w8, w64}
 use Rattle.flash.specs.Laws.{le_or_lt}
-use Rattle.rules.specs.declared.PageSize.{PageSize}
 use Rattle.rules.specs.Words.{words_of}
 use Rattle.frames.specs.declared.Shape.{Shape}
-use Rattle.frames.specs.Frames.{area_of, run_words, run_of}
-
-pub area_of_shape : {m : ℕ} (a : Shape) → m ≡ words_of a.size → record { pages = a.pages; words = m } ≡ area_of a
-area_of_shape a e = rw e
+use Rattle.frames.specs.Frames.{run_words, run_of}
 
 -- the run of a shape is the flash f up to a place, and behind that place is what is behind the run
 pub record RunEnd (a : Shape) (f : List ℕ) (end : ℕ) : Type 0 where
@@ -47,16 +42,3 @@ module _ {n k : ℕ} (a : Shape) (f : List ℕ) where
       (λ (h : n ≤ length f). let d : k ≡ n = omega arith in end_run e h d)
       (λ (h : length f < n). let l : length f ≤ n = omega arith in let d : k ≡ length f = omega arith in end_short e l d)
       (le_or_lt n (length f))
-
--- so many words can be counted
-pub run_counted : {n m : ℕ} → Fits w8 n → m ≤ 1024 → Fits w64 ((n + 1) * m)
-run_counted {n} {m} h l =
-    let b : n < 256 = h.fits in
-    let g : n + 1 ≤ 256 = omega arith in
-    let k : (n + 1) * m ≤ 256 * m = mul-le-mul_right m g in
-    record { fits = omega arith }
-
-pub run_product : {m : ℕ} (n : ℕ) (s : PageSize) → m ≡ words_of s → (n + 1) * m ≡ (n + 1) * words_of s
-run_product n s e = ap (λ (u : ℕ). (n + 1) * u) e
-
-pub ruleset runs = (end_least)

@@ -5,7 +5,7 @@ ghost use Rattle.std.specs.Prelude.{◌≡◌};
 ghost use Rattle.rules.specs.Refusals.{answer_number, answer_stores};
 ghost use Rattle.frames.specs.Frames.{plain, read_reply, list_reply, shape_after, bad_frame, requested, read_frame, list_frame, format_frame, carried};
 ghost use Rattle.frames.specs.Requests.{meant};
-ghost use Rattle.frames.specs.Carrying.{Carries, Spends, Tells, size_if, shape_if};
+ghost use Rattle.frames.specs.Carrying.{Carries, size_if, shape_if};
 
 use crate::requests::{self, Request};
 use crate::{ENOUGH, Frame, Reply, Shape, State, Tail, line};
@@ -14,11 +14,11 @@ use rules::{Answer, Made, PageSize, Reading, Refusal, Yielded};
 // The number of a line that is no frame.
 const BAD_FRAME: u8 = 0x0A;
 
-// The state behind a line, and its reply.
-#[derive(Clone, Copy)]
-pub struct Taken {
+// The console: what it keeps between lines, and its flash.
+#[derive(Drop)]
+pub struct Console<'a> {
     pub state: State,
-    pub reply: Reply,
+    pub flash: &'a mut [u32],
 }
 
 // A reply of number and stores alone.
@@ -107,113 +107,74 @@ fn shape_after(old: Shape, new: Shape, answer: Answer) -> Shape
     }
 }
 
-// What is taken from a request that may store, which has spent the power.
-fn spent(state: State, answer: Answer) -> Taken
-    ensures { Spends state answer result }
-{
-    Taken {
-        state: State {
-            power: ENOUGH,
-            ..state
-        },
-        reply: answer_reply(answer),
+impl Console<'_> {
+    // A write, a delete or a recovery: a request with the power that was named for it, which is
+    // spent.
+    fn request(&mut self, request: Request) -> Reply
+        ensures flash { self.new.flash.ghost_name ≡ self.old.flash.ghost_name }
+        ensures carries { Carries (requested self.old.state self.old.flash.now (meant request.entry)) result self.new.state self.new.flash.now }
+    {
+        let State { shape, power } = self.state;
+        self.state.power = ENOUGH;
+        answer_reply(requests::make(self.flash, shape, request, power))
     }
-}
 
-// A write, a delete or a recovery: a request with the power that was named for it.
-fn carry_request(state: State, flash: &mut [u32], request: Request) -> Taken
-    ensures { Carries (requested state flash.old (meant request.entry)) result flash.new }
-{
-    let answer = requests::make(flash, state.shape, request, state.power);
-    spent(state, answer)
-}
-
-// A read.
-fn carry_read(state: State, flash: &[u32], handle: u16) -> Taken
-    ensures { Carries (read_frame state flash.now handle) result flash.now }
-{
-    let reading = requests::read(flash, state.shape, handle);
-    Taken {
-        state,
-        reply: read_reply(reading),
+    // A read.
+    fn read(&self, handle: u16) -> Reply
+        ensures { Carries (read_frame self.now.state self.now.flash.now handle) result self.now.state self.now.flash.now }
+    {
+        read_reply(requests::read(self.flash, self.state.shape, handle))
     }
-}
 
-// A list. One check of the area is made.
-fn carry_list(state: State, flash: &[u32], mask: u16, pattern: u16) -> Taken
-    ensures { Carries (list_frame state flash.now mask pattern) result flash.now }
-{
-    let shape = state.shape;
-    let yielded = requests::search(flash, shape, mask, pattern);
-    Taken {
-        state,
-        reply: list_reply(shape, mask, pattern, yielded),
+    // A list. One check of the area is made.
+    fn list(&self, mask: u16, pattern: u16) -> Reply
+        ensures { Carries (list_frame self.now.state self.now.flash.now mask pattern) result self.now.state self.now.flash.now }
+    {
+        let shape = self.state.shape;
+        let yielded = requests::search(self.flash, shape, mask, pattern);
+        list_reply(shape, mask, pattern, yielded)
     }
-}
 
-// The state with so much power for the next frame that is to spend it.
-fn powered(state: State, power: u16) -> Taken
-    ensures { Tells (record { shape = state.shape; power = power }) (plain 0 0) result }
-{
-    Taken {
-        state: State {
-            power: u32::from(power),
-            ..state
-        },
-        reply: plain(0, 0),
-    }
-}
-
-// A format of so many pages of a size.
-fn carry_format(state: State, flash: &mut [u32], pages: u8, size: u8) -> Taken
-    ensures { Carries (format_frame state flash.old pages size) result flash.new }
-{
-    let Some(new) = shape_named(pages, size) else {
-        return Taken {
-            state,
-            reply: plain(Refusal::Geometry.number(), 0),
+    // A format of so many pages of a size.
+    fn format(&mut self, pages: u8, size: u8) -> Reply
+        ensures flash { self.new.flash.ghost_name ≡ self.old.flash.ghost_name }
+        ensures carries { Carries (format_frame self.old.state self.old.flash.now pages size) result self.new.state self.new.flash.now }
+    {
+        let Some(new) = shape_named(pages, size) else {
+            return plain(Refusal::Geometry.number(), 0);
         };
-    };
-    let answer = requests::make(flash, new, Request::Format, ENOUGH);
-    let shape = shape_after(state.shape, new, answer);
-    Taken {
-        state: State { shape, ..state },
-        reply: answer_reply(answer),
+        let answer = requests::make(self.flash, new, Request::Format, ENOUGH);
+        self.state.shape = shape_after(self.state.shape, new, answer);
+        answer_reply(answer)
     }
-}
 
-// A line that is no frame.
-fn bad_frame(state: State) -> Taken
-    ensures { Tells state (plain bad_frame 0) result }
-{
-    Taken {
-        state,
-        reply: plain(BAD_FRAME, 0),
-    }
-}
-
-// Carries a line out.
-#[tactic(auto, using(crate::specs::Carrying::dispatches))]
-pub fn carry(state: State, flash: &mut [u32], line: &[u8]) -> Taken
-    ensures { Carries (carried state flash.old line.now) result flash.new }
-{
-    let mut words = [0u32; 40];
-    let Some(frame) = line::read_frame(line, &mut words) else {
-        return bad_frame(state);
-    };
-    match frame {
-        Frame::Write {
-            handle,
-            words: count,
-        } => {
-            let data = &words[..count];
-            carry_request(state, flash, Request::Write { handle, data })
+    // Carries a line out.
+    #[tactic(auto, using(crate::specs::Carrying::dispatches))]
+    pub fn carry(&mut self, line: &[u8]) -> Reply
+        ensures flash { self.new.flash.ghost_name ≡ self.old.flash.ghost_name }
+        ensures carries { Carries (carried self.old.state self.old.flash.now line.now) result self.new.state self.new.flash.now }
+    {
+        let mut words = [0u32; 40];
+        let Some(frame) = line::read_frame(line, &mut words) else {
+            return plain(BAD_FRAME, 0);
+        };
+        match frame {
+            Frame::Write {
+                handle,
+                words: count,
+            } => {
+                let data = &words[..count];
+                self.request(Request::Write { handle, data })
+            }
+            Frame::Read(handle) => self.read(handle),
+            Frame::Delete(handle) => self.request(Request::Delete(handle)),
+            Frame::List { mask, pattern } => self.list(mask, pattern),
+            Frame::Recover => self.request(Request::Recover),
+            Frame::Power(power) => {
+                self.state.power = u32::from(power);
+                plain(0, 0)
+            }
+            Frame::Format { pages, size } => self.format(pages, size),
         }
-        Frame::Read(handle) => carry_read(state, flash, handle),
-        Frame::Delete(handle) => carry_request(state, flash, Request::Delete(handle)),
-        Frame::List { mask, pattern } => carry_list(state, flash, mask, pattern),
-        Frame::Recover => carry_request(state, flash, Request::Recover),
-        Frame::Power(power) => powered(state, power),
-        Frame::Format { pages, size } => carry_format(state, flash, pages, size),
     }
 }

@@ -19,6 +19,7 @@ mod shapes;
 ghost use Rattle.std.specs.Prelude.{◌≡◌, ◌≤◌, length};
 ghost use Rattle.frames.specs.Frames.{start, line_length, Responds};
 
+use carrying::Console;
 pub use line::read_frame;
 use rules::PageSize;
 pub use saying::say;
@@ -58,7 +59,8 @@ pub enum Tail {
     },
 }
 
-// An answer: its number, the stores made, and what comes behind.
+// An answer: its number, the stores made, and what comes behind. The number is what the line says:
+// those of the manager's answers, and one that is the console's alone.
 #[derive(Clone, Copy)]
 pub struct Reply {
     pub number: u8,
@@ -79,7 +81,8 @@ pub enum Frame {
     Format { pages: u8, size: u8 },
 }
 
-// What of an answer is in the buffer: so many bytes, and whether there are more behind them.
+// What of an answer is in the buffer: so many bytes, and whether there are more behind them. The count
+// holds either way, so an enum of the two cases would say it twice.
 #[derive(Clone, Copy, PartialEq, Eq, Debug)]
 pub struct Said {
     pub count: usize,
@@ -111,13 +114,11 @@ pub fn start() -> State
 pub fn answer(state: State, flash: &mut [u32], line: &[u8], out: &mut [u8]) -> Answered
     ensures { Responds state flash.old line.now out.old result flash.new out.new }
 {
-    let taken = carrying::carry(state, flash, line);
-    let said = say(taken.reply, flash, 0, out);
-    Answered {
-        state: taken.state,
-        reply: taken.reply,
-        said,
-    }
+    let mut console = Console { state, flash };
+    let reply = console.carry(line);
+    let Console { state, flash } = console;
+    let said = say(reply, flash, 0, out);
+    Answered { state, reply, said }
 }
 
 // The number of bytes before the first newline of a text, all of them if it has none.

@@ -28,7 +28,6 @@ impl Shape {
     }
 
     // The end of its run, or that of the flash, if it is too short for the run.
-    #[tactic(auto, using(crate::specs::Shapes::runs))]
     pub(crate) fn run_end(self, flash: &[u32]) -> usize
         ensures { RunEnd self flash.now result }
     {

@@ -1,9 +1,8 @@
 -- Whether a handle holds given data, from what is found of it: laws. Assumes nothing.
-use Rattle.std.specs.Prelude.{◌≡◌, refl, Bool, true, false, ◌&&◌, ℕ, suc, ◌+◌, ◌-◌, ◌≤◌, ◌<◌, length, get_or, take, drop, eqb, Option, Some, None}
-use Rattle.std.proofs.Common.{sym, ◌∙◌, arith, add-one, drop_of_length-le, drop-cons, eq-eqb, ne_eqb}
+use Rattle.std.specs.Prelude.{◌≡◌, Bool, false, ℕ, suc, ◌+◌, ◌-◌, take, drop, Option, Some, None}
+use Rattle.std.proofs.Common.{sym, ◌∙◌, arith, add-one}
 use Rattle.std.proofs.Math.Path.{ap}
-use mathlib.Core.List.{List, [], ◌∷◌}
-use Rattle.std.proofs.Math.Bool.{and-false}
+use mathlib.Core.List.{List}
 use Rattle.rules.specs.declared.Area.{Area}
 use Rattle.rules.specs.Areas.{Entry, entries, live_of, find, data_of, map_of}
 use Rattle.rules.specs.Refusals.{same_words, is_data, holds}

@@ -8,7 +8,7 @@ use Rattle.rules.specs.declared.Refusal.TheVariants.{BadHandle, NotFound}
 use Rattle.rules.specs.Areas.{Entry, entries, find}
 use Rattle.rules.specs.Refusals.{bad_handle, Reading}
 use Rattle.rules.specs.Search.{place_of, data_length, read_of}
-use Rattle.entries.specs.Ahead.{found_of, found_none, found_some}
+use Rattle.entries.specs.Ahead.{found_of}
 use Rattle.survey.specs.declared.View.{View}
 use Rattle.survey.specs.Surveying.{surveyed}
 use Rattle.survey.specs.Views.{survey_refused, survey_on, survey_view, view_entry}

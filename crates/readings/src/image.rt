@@ -1,187 +1,190 @@
-// Crafted flash: functions that put words into a lent run. A word outside the run is put nowhere, so
-// none of them has a `requires`. Unlike stores, they set bits as well as clear them.
+// Crafted flash: words that are put into a run one by one. Unlike stores, they set bits as well as
+// clear them. A word outside the run is put nowhere.
+use crate::show::Asked;
 use rules::Area;
+use std::alloc::{AllocError, Global};
 
+// The words of document 01, apart from those that the manager is compiled with: a blank word,
 pub const BLANK: u32 = 0xFFFF_FFFF;
-
+// the seal behind a page's entries,
 pub const SEAL: u32 = 0x7FFF_FFFF;
-
+// and a page's word 0.
 pub const FIRST: u32 = 0x1010_0408;
 
-// Puts a word at a place of the run, and answers the place behind it.
-pub fn put(run: &mut [u32], at: usize, word: u32) -> usize {
-    if at < run.len() {
-        run[at] = word;
-        return at + 1;
+// An entry that is crafted: the handle, the number of data words, and the first of these, from which
+// they count up.
+pub type Entry = (u16, u8, u32);
+
+// A run of words, and the area that it is crafted as.
+#[derive(Drop)]
+pub struct Image {
+    pub run: Vec<u32>,
+    pub area: Area,
+}
+
+impl Image {
+    // A blank run of an area's words, with R, and so many more.
+    pub fn blank(alloc: Global, area: Area, more: usize) -> Result<Image, AllocError> {
+        let pages = area.pages.saturating_add(1);
+        let length = pages.saturating_mul(area.words).saturating_add(more);
+        Ok(Image {
+            run: vec![in alloc; BLANK; length]?,
+            area,
+        })
     }
-    at
-}
 
-// Puts the same word at every place from one up to another, which keeps its own.
-pub fn fill(run: &mut [u32], from: usize, end: usize, word: u32) {
-    for at in from..end {
-        put(run, at, word);
+    // The run as the area, to be asked.
+    pub fn asked(&self) -> Asked<'_> {
+        Asked {
+            run: &self.run,
+            area: self.area,
+        }
     }
-}
 
-// Copies a run into the first words of another, as far as these go.
-pub fn copy(from: &[u32], to: &mut [u32]) {
-    for at in 0..from.len() {
-        put(to, at, flash::word(from, at));
+    // The place of a page's word; R has the index behind the last page's.
+    pub fn place(&self, page: u8, word: usize) -> usize {
+        usize::from(page)
+            .saturating_mul(self.area.words)
+            .saturating_add(word)
     }
-}
 
-// The place of word 0 of the page with an index; R has the index behind the last page's.
-fn start(area: Area, index: u8) -> usize {
-    if area.words == 64 {
-        return (index as usize) * 64;
+    // The number that a word so many before a page's end has on the page: 1 gives P - 1.
+    pub fn back(&self, words: usize) -> usize {
+        self.area.words.saturating_sub(words)
     }
-    if area.words == 256 {
-        return (index as usize) * 256;
+
+    // The number of pages, as a page's metadata hold it: R's index.
+    pub fn count(&self) -> u8 {
+        (self.area.pages % 256) as u8
     }
-    (index as usize) * 1024
-}
 
-// The place of a page's word.
-pub fn place(area: Area, index: u8, word: usize) -> usize {
-    std::num::wrapping_add_usize(start(area, index), word)
-}
-
-// The number that a word so many before a page's end has on the page: 1 gives P - 1.
-pub fn back(area: Area, words: usize) -> usize {
-    std::num::wrapping_sub_usize(area.words, words)
-}
-
-// Puts a word at a page's word.
-pub fn set(run: &mut [u32], area: Area, index: u8, at: usize, word: u32) {
-    put(run, place(area, index, at), word);
-}
-
-// Makes all words of a page the same.
-pub fn fill_page(run: &mut [u32], area: Area, index: u8, word: u32) {
-    let from = place(area, index, 0);
-    let end = place(area, index, area.words);
-    fill(run, from, end, word);
-}
-
-// The number of pages, as a page's metadata hold it: R's index.
-pub fn count(area: Area) -> u8 {
-    (area.pages % 256) as u8
-}
-
-// Word 1 of the metadata of the page with an index.
-pub fn second(area: Area, index: u8) -> u32 {
-    0xFFFF_0000 + (index as u32) * 256 + (count(area) as u32)
-}
-
-// The header of an entry with so many data words.
-fn header(handle: u16, words: u8) -> u32 {
-    (handle as u32) * 65536 + (words as u32) + 1
-}
-
-// Puts so many data words, each one more than the one before, and answers the place behind them.
-fn data(run: &mut [u32], from: usize, words: u8, first: u32) -> usize {
-    let mut at = from;
-    let mut word = first;
-    for _ in 0..words {
-        at = put(run, at, word);
-        word = std::num::wrapping_add_u32(word, 1);
+    // The last page's index.
+    pub fn last(&self) -> u8 {
+        self.count().saturating_sub(1)
     }
-    at
-}
 
-// Puts an entry with so many data words, which count up from the first, and answers the place
-// behind it.
-pub fn entry(run: &mut [u32], at: usize, handle: u16, words: u8, first: u32) -> usize {
-    let next = put(run, at, header(handle, words));
-    data(run, next, words, first)
-}
-
-// Puts an entry and the seal behind it.
-pub fn last_entry(run: &mut [u32], at: usize, handle: u16, words: u8, first: u32) {
-    let end = entry(run, at, handle, words, first);
-    put(run, end, SEAL);
-}
-
-// Makes the page with an index a sealed one without entries, if it was blank.
-fn empty_page(run: &mut [u32], area: Area, index: u8) {
-    let at = put(run, place(area, index, 0), FIRST);
-    let next = put(run, at, second(area, index));
-    put(run, next, SEAL);
-}
-
-// Makes the run an area of sealed pages without entries, with R free.
-pub fn format(run: &mut [u32], area: Area) {
-    let end = run.len();
-    fill(run, 0, end, BLANK);
-    for index in 0..count(area) {
-        empty_page(run, area, index);
+    // Word 1 of the metadata of the page with an index.
+    pub fn second(&self, page: u8) -> u32 {
+        0xFFFF_0000 + u32::from(page) * 256 + u32::from(self.count())
     }
-}
 
-// Puts an entry of 33 words whose data count up from its handle, and answers the place behind it.
-fn longest(run: &mut [u32], at: usize, handle: u16) -> usize {
-    entry(run, at, handle, 32, handle as u32)
-}
-
-// Puts so many of these, with handles that count up from the first, and answers the place behind
-// them.
-fn longest_ones(run: &mut [u32], from: usize, entries: u8, first: u16) -> usize {
-    let mut at = from;
-    let mut handle = first;
-    for _ in 0..entries {
-        at = longest(run, at, handle);
-        handle = std::num::wrapping_add_u16(handle, 1);
+    // Puts a word at a place, and answers the place behind it.
+    fn put(&mut self, at: usize, word: u32) -> usize {
+        if let Some(old) = self.run.get_mut(at) {
+            *old = word;
+        }
+        at.saturating_add(1)
     }
-    at
-}
 
-// Fills the words of a page that are open to entries: a first entry of what 33 leaves of D, then
-// entries of 33 words, the last of which ends at word P - 2, and the seal at P - 1. The first has the
-// handle, the others those behind it.
-pub fn full_page(run: &mut [u32], area: Area, index: u8, handle: u16) {
-    let open = back(area, 3);
-    let words = std::num::wrapping_sub_u8((open % 33) as u8, 1);
-    let entries = (open / 33 % 256) as u8;
-    let at = entry(run, place(area, index, 2), handle, words, 0);
-    let end = longest_ones(run, at, entries, std::num::wrapping_add_u16(handle, 1));
-    put(run, end, SEAL);
-}
+    // Puts an entry at a place, and answers the place behind it.
+    fn put_entry(&mut self, from: usize, entry: Entry) -> usize {
+        let (handle, words, first) = entry;
+        let header = u32::from(handle) * 65536 + u32::from(words) + 1;
+        let mut at = self.put(from, header);
+        for count in 0..u32::from(words) {
+            at = self.put(at, first.wrapping_add(count));
+        }
+        at
+    }
 
-// An area of three pages of which the first and the last are full, the first from a handle on, the
-// last from 0200 on.
-pub fn two_full(run: &mut [u32], area: Area, handle: u16) {
-    format(run, area);
-    full_page(run, area, 0, handle);
-    full_page(run, area, 2, 0x0200);
-}
+    // Puts a word at a page's word.
+    pub fn set(&mut self, page: u8, at: usize, word: u32) {
+        let place = self.place(page, at);
+        self.put(place, word);
+    }
 
-// Puts handle 0012, an invalidated entry and handle 7EFF on page 0.
-fn sample_first(run: &mut [u32], area: Area) {
-    let a = entry(run, place(area, 0, 2), 0x0012, 1, 0xA1B2_C3D4);
-    let b = entry(run, a, 0x0000, 2, 0x7FFF_FFFE);
-    last_entry(run, b, 0x7EFF, 0, 0);
-}
+    // Puts a word at a page's word, and answers the one that stood there.
+    pub fn exchange(&mut self, page: u8, at: usize, word: u32) -> u32 {
+        let place = self.place(page, at);
+        let old = flash::word(&self.run, place);
+        self.put(place, word);
+        old
+    }
 
-// Puts handles 0001 and 0113 on page 2. Their data look like a seal, a header and a blank word.
-fn sample_last(run: &mut [u32], area: Area) {
-    let a = put(run, place(area, 2, 2), 0x0001_0003);
-    let b = put(run, a, SEAL);
-    let c = put(run, b, 0x0013_0002);
-    last_entry(run, c, 0x0113, 1, BLANK);
-}
+    // Puts words from a page's word on.
+    pub fn set_all(&mut self, page: u8, from: usize, words: &[u32]) {
+        let mut at = self.place(page, from);
+        for &word in words {
+            at = self.put(at, word);
+        }
+    }
 
-// An area of three pages with four live entries: 0012 and 7EFF on page 0, with an invalidated entry
-// between them, page 1 empty, 0001 and 0113 on page 2.
-pub fn sample(run: &mut [u32], area: Area) {
-    format(run, area);
-    sample_first(run, area);
-    sample_last(run, area);
-}
+    // Puts entries, and the seal behind them, from word 2 of a page on.
+    pub fn seal(&mut self, page: u8, entries: &[Entry]) {
+        let mut at = self.place(page, 2);
+        for &entry in entries {
+            at = self.put_entry(at, entry);
+        }
+        self.put(at, SEAL);
+    }
 
-// Makes R, if it was free, a committed one that names the page with an index and holds 0113.
-pub fn commit(run: &mut [u32], area: Area, index: u8) {
-    let at = put(run, place(area, count(area), 0), FIRST);
-    let next = put(run, at, second(area, index));
-    last_entry(run, next, 0x0113, 1, 0xBBBB_BBBB);
+    // Makes all words of a page the same.
+    pub fn fill_page(&mut self, page: u8, word: u32) {
+        let from = self.place(page, 0);
+        let end = self.place(page, self.area.words);
+        if let Some(words) = self.run.as_mut_slice().get_mut(from..end) {
+            words.fill(word);
+        }
+    }
+
+    // Makes the run an area of sealed pages without entries, with R free.
+    pub fn format(&mut self) {
+        self.run.fill(BLANK);
+        for page in 0..self.count() {
+            self.set(page, 0, FIRST);
+            self.set(page, 1, self.second(page));
+            self.seal(page, &[]);
+        }
+    }
+
+    // Fills the words of a page that are open to entries: a first entry of what 33 leaves of D, then
+    // entries of 33 words, the last of which ends at word P - 2, and the seal at P - 1. The first has
+    // the handle, the others those behind it, and their data count up from their handles.
+    pub fn full_page(&mut self, page: u8, handle: u16) {
+        let open = self.back(3);
+        let words = (open % 33).saturating_sub(1) as u8;
+        let place = self.place(page, 2);
+        let mut at = self.put_entry(place, (handle, words, 0));
+        for count in 0..(open / 33 % 256) as u16 {
+            let next = handle.wrapping_add(count).wrapping_add(1);
+            at = self.put_entry(at, (next, 32, u32::from(next)));
+        }
+        self.put(at, SEAL);
+    }
+
+    // An area of three pages of which the first and the last are full, the first from a handle on, the
+    // last from 0200 on.
+    pub fn two_full(&mut self, handle: u16) {
+        self.format();
+        self.full_page(0, handle);
+        self.full_page(2, 0x0200);
+    }
+
+    // An area of three pages with four live entries: 0012 and 7EFF on page 0, with an invalidated
+    // entry between them, page 1 empty, 0001 and 0113 on page 2, whose data look like a seal, a header
+    // and a blank word.
+    pub fn sample(&mut self) {
+        self.format();
+        self.seal(
+            0,
+            &[
+                (0x0012, 1, 0xA1B2_C3D4),
+                (0x0000, 2, 0x7FFF_FFFE),
+                (0x7EFF, 0, 0),
+            ],
+        );
+        self.set_all(
+            2,
+            2,
+            &[0x0001_0003, SEAL, 0x0013_0002, 0x0113_0002, BLANK, SEAL],
+        );
+    }
+
+    // Makes R, if it was free, a committed one that names the page with an index and holds 0113.
+    pub fn commit(&mut self, page: u8) {
+        let r = self.count();
+        self.set(r, 0, FIRST);
+        self.set(r, 1, self.second(page));
+        self.seal(r, &[(0x0113, 1, 0xBBBB_BBBB)]);
+    }
 }

@@ -4,6 +4,7 @@
 #![tactic(auto)]
 
 mod areas;
+mod bench;
 mod damage;
 mod geometry;
 mod image;
@@ -15,8 +16,11 @@ mod show;
 mod unready;
 mod worked;
 
-fn main(rt: HostRuntime) {
-    let mut to = rt.stdout();
-    areas::all(&mut to);
-    geometry::all(&mut to);
+use bench::Bench;
+use std::alloc::AllocError;
+
+fn main(rt: HostRuntime) -> Result<(), AllocError> {
+    let mut bench = Bench::new(rt.alloc(), rt.stdout())?;
+    areas::all(&mut bench)?;
+    geometry::all(&mut bench)
 }

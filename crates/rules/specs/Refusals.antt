@@ -7,7 +7,7 @@ use Rattle.rules.specs.declared.Refusal.{Refusal}
 use Rattle.rules.specs.declared.Refusal.TheVariants.{Geometry, Damaged, Unready, BadHandle, BadLength, NotFound, NoRoom, BadPlace}
 use Rattle.rules.specs.Words.{size_of, quota, special}
 use Rattle.rules.specs.Walk.{entry_length}
-use Rattle.rules.specs.Areas.{Entry, entries, find, map_of, damaged, ready, live_words}
+use Rattle.rules.specs.Areas.{entries, find, map_of, damaged, ready, live_words}
 use Rattle.rules.specs.declared.Made.{Made}
 use Rattle.rules.specs.declared.Found.{Found}
 use Rattle.rules.specs.declared.PageSize.{PageSize}

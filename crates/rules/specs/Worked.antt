@@ -10,7 +10,7 @@ use Rattle.rules.specs.declared.Kind.TheVariants.{Sealed, Torn}
 use Rattle.rules.specs.Words.{words_of, open_words, quota, last_seal, meta1, index_of, header}
 use Rattle.rules.specs.Walk.{begins, items, rest, stop, meta_right, kind_of}
 use Rattle.rules.specs.Areas.{base, page, recovery_of, entries, damaged, ready, map_of}
-use Rattle.rules.specs.Refusals.{wrong_geometry, unready, holds, no_room, Reading, Yielded}
+use Rattle.rules.specs.Refusals.{wrong_geometry, unready, holds, no_room}
 use Rattle.rules.specs.Lists.{live_codes, leaves_room, room_page, makes_room, compact_page, format, recover, write, delete}
 use Rattle.rules.specs.Search.{next, bad_place}
 use Rattle.rules.specs.Cases.{Act, asks, reads, searches, looks, looks_up, weighs, Seen, answer, reading, yields, page_is, value, weight, Case, comes, must, small, zeros, blanks, sevens, enough}

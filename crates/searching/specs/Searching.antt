@@ -1,6 +1,6 @@
 -- What search promises; laws: what it answers, from what a survey and a step have found; and that the promise allows one answer. Assumes nothing.
 use Rattle.std.specs.Prelude.{refl, Some, None, ◌≡◌, List, [], ◌∷◌, Bool, cond, ℕ, Option, Result, Ok, Err, is_none}
-use Rattle.std.proofs.Common.{ap, sym, ◌∙◌}
+use Rattle.std.proofs.Common.{sym, ◌∙◌}
 use Rattle.flash.specs.Laws.{settled}
 use Rattle.rules.specs.declared.Area.{Area}
 use Rattle.rules.specs.declared.Refusal.{Refusal}

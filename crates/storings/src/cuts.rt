@@ -3,131 +3,87 @@
 // the digest behind that, and one number for the answers of all cut recoveries, of the whole ones that
 // follow them, and the digests behind each; then the map; last, number and stores of the same request
 // made once more, on what the whole recovery left and with power for all of it, and the digest.
-use crate::command::Request;
-use crate::{show, words};
-use rules::{Answer, Area};
+use crate::command::{FULL, Request};
+use crate::digest::Digest;
+use crate::lent::Lent;
+use crate::outcome::Outcome;
+use std::alloc::{AllocError, Global};
 use std::io::Write;
 
-// Power for any list of stores.
-const FULL: u32 = 0xFFFF_FFFF;
+// No more words than this are copied.
+const COPIED: usize = 4096;
 
-// What has been folded up of the recoveries so far, and whether the last was cut.
-#[derive(Clone, Copy)]
-struct Folded {
-    sum: u64,
-    cut: bool,
-}
+// Runs are cut with power for fewer stores than this.
+const POWERS: u32 = 4096;
 
-// Folds an answer's number and stores, and the digest of the run that it left.
-fn answered(sum: u64, answer: Answer, run: &[u32]) -> u64 {
-    let number = words::fold(sum, answer.number() as u64);
-    let stores = words::fold(number, answer.stores() as u64);
-    words::fold(stores, words::digest(run))
-}
-
-// Recovers a copy of the run with so much power, then wholly, and folds what both come to.
-fn twice(run: &[u32], area: Area, again: &mut [u32], power: u32, sum: u64) -> Folded {
-    words::copy(run, again, 0);
-    let answer = manager::recover(again, area, power);
-    let once = answered(sum, answer, again);
-    let whole = manager::recover(again, area, FULL);
-    Folded {
-        sum: answered(once, whole, again),
-        cut: answer.number() == 8,
-    }
-}
-
-// Cuts the recovery of the run everywhere, and answers what that folds up to.
-fn recoveries(run: &[u32], area: Area, again: &mut [u32]) -> u64 {
-    let mut sum = 0;
-    for power in 0..4096u32 {
-        let folded = twice(run, area, again, power, sum);
-        sum = folded.sum;
-        if !folded.cut {
+// Cuts the recovery of what is lent everywhere, on copies, and answers what that folds up to.
+fn recoveries(alloc: Global, lent: &Lent<'_>) -> Result<Digest, AllocError> {
+    let mut digest = Digest::NONE;
+    for power in 0..POWERS {
+        let mut words = lent.copied(alloc)?;
+        let mut copy = Lent {
+            run: &mut words,
+            area: lent.area,
+        };
+        let cut = copy.make(Request::Recover, power);
+        digest = cut.fold(digest, copy.run);
+        let whole = copy.make(Request::Recover, FULL);
+        digest = whole.fold(digest, copy.run);
+        if !cut.is_cut() {
             break;
         }
     }
-    sum
+    Ok(digest)
 }
 
-// Writes what the recoveries of the run come to, and leaves it recovered in the copy.
-fn recovered(to: &mut impl Write, run: &[u32], area: Area, again: &mut [u32]) {
-    let sum = recoveries(run, area, again);
-    words::copy(run, again, 0);
-    show::answer(to, manager::recover(again, area, FULL));
-    show::digest(to, words::digest(again));
-    show::digest(to, sum);
-    show::byte(to, b';');
-    show::map(to, again, area, 0, 0);
+// A request of which every cut is made, and where the lines are written.
+#[derive(Drop)]
+pub struct Cuts<'a, W> {
+    pub alloc: Global,
+    pub to: &'a mut W,
+    pub request: Request<'a>,
 }
 
-// Makes a request on a copy of the run with so much power, recovers, and makes the request again with
-// power for all of it. Answers whether the first was cut.
-fn once(
-    to: &mut impl Write,
-    run: &[u32],
-    asked: Request,
-    data: &[u32],
-    power: u32,
-    cut: &mut [u32],
-    again: &mut [u32],
-) -> bool {
-    let area = asked.area;
-    let mut request = asked;
-    request.power = power;
-    words::copy(run, cut, 0);
-    let answer = request.make(cut, data);
-    show::answer(to, answer);
-    show::digest(to, words::digest(cut));
-    show::byte(to, b';');
-    recovered(to, cut, area, again);
-    show::byte(to, b';');
-    request.power = FULL;
-    show::answer(to, request.make(again, data));
-    show::digest(to, words::digest(again));
-    show::byte(to, b'\n');
-    answer.number() == 8
-}
-
-// Makes a request with power for 0 stores, for 1, and so on to the first that is not cut.
-fn powers(
-    to: &mut impl Write,
-    run: &[u32],
-    asked: Request,
-    data: &[u32],
-    cut: &mut [u32],
-    again: &mut [u32],
-) {
-    for power in 0..4096u32 {
-        if !once(to, run, asked, data, power, cut, again) {
-            break;
+impl<W: Write> Cuts<'_, W> {
+    // Makes the request with power for 0 stores, for 1, and so on to the first that is not cut. A mark
+    // says that so many words are not copied.
+    pub fn every(&mut self, lent: &Lent<'_>) -> Result<(), AllocError> {
+        if COPIED < lent.run.len() {
+            let _ = self.to.write_all(b"!\n");
+            return Ok(());
         }
-    }
-}
-
-// The same in two spaces for copies of the run. A mark says that they are too small.
-pub fn every(
-    to: &mut impl Write,
-    run: &[u32],
-    asked: Request,
-    data: &[u32],
-    cut: &mut [u32],
-    again: &mut [u32],
-) {
-    let length = run.len();
-    if length <= cut.len() {
-        if length <= again.len() {
-            show::byte(to, b'\n');
-            powers(
-                to,
-                run,
-                asked,
-                data,
-                &mut cut[0..length],
-                &mut again[0..length],
-            );
-            return;
+        let _ = self.to.write_all(b"\n");
+        for power in 0..POWERS {
+            if !self.once(lent, power)?.is_cut() {
+                break;
+            }
         }
+        Ok(())
     }
-    show::small(to);
+
+    // Makes the request with so much power on a copy of what is lent, recovers, and makes it again
+    // with power for all of it. Writes the line, and answers what the first came to.
+    fn once(&mut self, lent: &Lent<'_>, power: u32) -> Result<Outcome, AllocError> {
+        let mut words = lent.copied(self.alloc)?;
+        let mut copy = Lent {
+            run: &mut words,
+            area: lent.area,
+        };
+        let outcome = copy.make(self.request, power);
+        let _ = write!(self.to, "{outcome}{};", copy.digest());
+        self.recovered(&mut copy)?;
+        let again = copy.make(self.request, FULL);
+        let _ = writeln!(self.to, ";{again}{}", copy.digest());
+        Ok(outcome)
+    }
+
+    // Recovers what is lent, and writes what that and its cuts come to, and the map.
+    fn recovered(&mut self, lent: &mut Lent<'_>) -> Result<(), AllocError> {
+        let cuts = recoveries(self.alloc, lent)?;
+        let outcome = lent.make(Request::Recover, FULL);
+        let digest = lent.digest();
+        let map = lent.map(0, 0);
+        let _ = write!(self.to, "{outcome}{digest}{cuts};{map}");
+        Ok(())
+    }
 }

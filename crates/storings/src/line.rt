@@ -1,135 +1,251 @@
-// A line of the script, as far as it has been read.
-use crate::words;
+// A line of the script.
+use crate::command::{Command, FULL, Request};
+use rules::Area;
+use std::alloc::{AllocError, Global};
 
-// A hexadecimal digit's value, 16 for any other byte.
-fn digit(x: u8) -> u32 {
-    if x < b'0' {
-        return 16;
-    }
-    if x <= b'9' {
-        return (x - b'0') as u32;
-    }
-    if x < b'A' {
-        return 16;
-    }
-    if x <= b'F' {
-        return (x - b'A') as u32 + 10;
-    }
-    16
-}
+// So many numbers of a line count.
+const MOST: usize = 2048;
 
-// Puts the words that a token stands for behind those of the list, and answers how many it has then.
-fn take(list: &mut [u32], count: usize, mark: u8, value: u32) -> usize {
-    if mark == b'0' {
-        return words::put(list, count, value);
-    }
-    if mark == b'+' {
-        return words::spread(list, count, value, 1);
-    }
-    if mark == b'*' {
-        return words::spread(list, count, value, 0);
-    }
-    count
-}
-
-// The first letter of the line's name, whether every cut is asked for, the power, and how many
-// numbers there are in the list. `mark` and `value` are of the token that is being read: the mark is
-// 0 before its first byte, then 'a' in a name, '0' in a number, and else the sign in front of the
-// number. What is lent stays from line to line: the area's numbers, and how many words.
+// What stands in a line, by the first letter of its name.
 #[derive(Clone, Copy)]
-pub struct Line {
-    pub name: u8,
-    pub every: bool,
-    pub power: u32,
-    pub count: usize,
-    mark: u8,
-    value: u32,
-    pub pages: usize,
-    pub words: usize,
+enum Name {
+    Area,
+    Put,
+    Tile,
+    Show,
+    Get,
+    Map,
+    Format,
+    Recover,
+    Write,
+    Delete,
+}
+
+impl From<u8> for Name {
+    // Every other letter is a delete's.
+    fn from(letter: u8) -> Name {
+        match letter {
+            b'a' => Name::Area,
+            b'p' => Name::Put,
+            b't' => Name::Tile,
+            b's' => Name::Show,
+            b'g' => Name::Get,
+            b'm' => Name::Map,
+            b'f' => Name::Format,
+            b'r' => Name::Recover,
+            b'w' => Name::Write,
+            _ => Name::Delete,
+        }
+    }
+}
+
+// What the bytes of a token make it: nothing yet, a name, numbers of some kind, the power, or what
+// counts for nothing.
+#[derive(Clone, Copy, PartialEq, Eq)]
+enum Kind {
+    Begun,
+    Name,
+    Number,
+    CountUp,
+    Repeat,
+    Power,
+    Other,
+}
+
+impl Kind {
+    // What a byte that is neither a digit nor a letter makes of a token. Behind a zero byte it begins
+    // anew, but for its digits.
+    fn of_sign(sign: u8) -> Kind {
+        match sign {
+            b'+' => Kind::CountUp,
+            b'*' => Kind::Repeat,
+            b'@' => Kind::Power,
+            0 => Kind::Begun,
+            _ => Kind::Other,
+        }
+    }
+}
+
+// What is lent from a line on: so many words, as an area.
+#[derive(Clone, Copy)]
+pub struct Loan {
+    pub area: Area,
     pub length: usize,
 }
 
+// A line's name, whether every cut is asked for, the power, and the numbers.
+#[derive(Drop)]
+pub struct Line {
+    name: Name,
+    every: bool,
+    pub power: u32,
+    numbers: Vec<u32>,
+}
+
 impl Line {
-    // A line of which nothing has been read.
-    pub fn start(pages: usize, words: usize, length: usize) -> Line {
-        Line {
-            name: 0,
+    // Reads a line's tokens, which stand between blanks.
+    pub fn read(alloc: Global, text: &[u8]) -> Result<Line, AllocError> {
+        let mut line = Line {
+            name: Name::Delete,
             every: false,
-            power: 0xFFFF_FFFF,
-            count: 0,
-            mark: 0,
-            value: 0,
-            pages,
-            words,
-            length,
+            power: FULL,
+            numbers: Vec::new(alloc),
+        };
+        for token in text.split(|&x| x == b' ') {
+            line.token(token)?;
         }
+        Ok(line)
     }
 
-    // Takes a byte that is no blank. Behind a `=` all of them are text.
-    pub fn sign(mut self, x: u8) -> Line {
-        if self.name == b'=' {
-            return self;
-        }
-        if x == b'=' {
-            self.name = x;
-            return self;
-        }
-        if b'a' <= x {
-            if self.mark == 0 {
-                if x == b'e' {
-                    self.every = true;
-                } else {
-                    self.name = x;
+    // Takes a token byte by byte: its digits are one number, wherever they stand.
+    fn token(&mut self, token: &[u8]) -> Result<(), AllocError> {
+        let mut kind = Kind::Begun;
+        let mut value = 0;
+        for &x in token {
+            if b'a' <= x {
+                if kind == Kind::Begun {
+                    self.letter(x);
                 }
+                kind = Kind::Name;
+            } else if let Some(digit) = char::from(x).to_digit(16) {
+                if kind == Kind::Begun {
+                    kind = Kind::Number;
+                }
+                value = value % 0x1000_0000 * 16 + digit;
+            } else {
+                kind = Kind::of_sign(x);
             }
-            self.mark = b'a';
-            return self;
         }
-        let nibble = digit(x);
-        if 16 <= nibble {
-            self.mark = x;
-            return self;
-        }
-        if self.mark == 0 {
-            self.mark = b'0';
-        }
-        self.value = self.value % 0x1000_0000 * 16 + nibble;
-        self
+        self.end(kind, value)
     }
 
-    // Ends a token: a number is the power, or goes into the list.
-    pub fn token(mut self, list: &mut [u32]) -> Line {
-        let count = take(list, self.count, self.mark, self.value);
-        if self.mark == b'@' {
-            self.power = self.value;
+    // Takes the first letter of a name, or of the word that asks for every cut.
+    fn letter(&mut self, letter: u8) {
+        if letter == b'e' {
+            self.every = true;
+        } else {
+            self.name = Name::from(letter);
         }
-        self.count = count;
-        self.mark = 0;
-        self.value = 0;
-        self
     }
 
-    // A number of the line by its index, 0 if there is none.
-    pub fn number(self, list: &[u32], index: usize) -> u32 {
-        if index < self.count {
-            return flash::word(list, index);
+    // Takes a whole token with what its digits are.
+    fn end(&mut self, kind: Kind, value: u32) -> Result<(), AllocError> {
+        match kind {
+            Kind::Number => self.push(value)?,
+            Kind::CountUp => self.push_more(value, 1)?,
+            Kind::Repeat => self.push_more(value, 0)?,
+            Kind::Power => self.power = value,
+            Kind::Begun | Kind::Name | Kind::Other => {}
         }
-        0
+        Ok(())
     }
 
-    // Lends what the line says, if it is of an area.
-    pub fn lend(mut self, list: &[u32]) -> Line {
-        if self.name != b'a' {
-            return self;
+    // Puts a number behind the others, if there is room.
+    fn push(&mut self, number: u32) -> Result<(), AllocError> {
+        if self.numbers.len() < MOST {
+            self.numbers.push(number)?;
         }
-        let pages = self.number(list, 0) as usize;
-        let words = self.number(list, 1) as usize;
-        let length = self.number(list, 2) as usize;
-        let upper_pages = self.number(list, 3) as usize;
-        let upper_words = self.number(list, 4) as usize;
-        self.pages = upper_pages * 0x1_0000_0000 + pages;
-        self.words = upper_words * 0x1_0000_0000 + words;
-        self.length = length;
-        self
+        Ok(())
+    }
+
+    // Puts so many numbers behind the others, each a step more than the one before.
+    fn push_more(&mut self, count: u32, step: u32) -> Result<(), AllocError> {
+        let mut number = self.numbers.last().copied().unwrap_or(0);
+        for _ in 0..count {
+            number = number.wrapping_add(step);
+            self.push(number)?;
+        }
+        Ok(())
+    }
+
+    // A number by its index, 0 if there is none.
+    fn number(&self, index: usize) -> u32 {
+        self.numbers.get(index).copied().unwrap_or(0)
+    }
+
+    // A number of 64 bits by the indices of its halves, the upper one first.
+    fn halves(&self, upper: usize, lower: usize) -> usize {
+        self.number(upper) as usize * 0x1_0000_0000 + self.number(lower) as usize
+    }
+
+    // The lower half of a number, as a handle or a filter.
+    fn half(&self, index: usize) -> u16 {
+        (self.number(index) % 65536) as u16
+    }
+
+    // A number as a place, a step or a count of words.
+    fn place(&self, index: usize) -> usize {
+        self.number(index) as usize
+    }
+
+    // The numbers behind the first few.
+    fn rest(&self, few: usize) -> &[u32] {
+        self.numbers.as_slice().get(few..).unwrap_or(&[])
+    }
+
+    // What the line lends, if it is of an area.
+    pub fn loan(&self) -> Option<Loan> {
+        match self.name {
+            Name::Area => Some(Loan {
+                area: Area {
+                    pages: self.halves(3, 0),
+                    words: self.halves(4, 1),
+                },
+                length: self.place(2),
+            }),
+            _ => None,
+        }
+    }
+
+    // The request: a delete where the line names no other.
+    fn request(&self) -> Request<'_> {
+        let handle = self.half(0);
+        match self.name {
+            Name::Format => Request::Format,
+            Name::Recover => Request::Recover,
+            Name::Write => Request::Write {
+                handle,
+                data: self.rest(1),
+            },
+            _ => Request::Delete { handle },
+        }
+    }
+
+    // The request of which every cut is asked for, if the line asks for that.
+    pub fn every(&self) -> Option<Request<'_>> {
+        if self.every {
+            Some(self.request())
+        } else {
+            None
+        }
+    }
+
+    // What the line asks for.
+    pub fn command(&self) -> Command<'_> {
+        match self.name {
+            Name::Area => Command::Area,
+            Name::Put => Command::Put {
+                place: self.place(0),
+                words: self.rest(1),
+            },
+            Name::Tile => Command::Tile {
+                place: self.place(0),
+                step: self.place(1),
+                times: self.number(2),
+                words: self.rest(3),
+            },
+            Name::Show => Command::Show {
+                place: self.place(0),
+                count: self.place(1),
+            },
+            Name::Get => Command::Get {
+                handle: self.half(0),
+            },
+            Name::Map => Command::Map {
+                mask: self.half(0),
+                pattern: self.half(1),
+            },
+            _ => Command::Make(self.request()),
+        }
     }
 }

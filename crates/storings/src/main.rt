@@ -22,85 +22,30 @@
 //!
 //! Only a name's first letter counts. @K is the power of a request, FFFFFFFF if nothing is said. +N
 //! stands for N words that count up from the one before, *N for N more of that one. Where the program
-//! has no space for so many words, nothing is made, and it prints a `!`.
+//! has no space for so many words, nothing is made, and it prints a `!`. Where memory runs out it ends
+//! with that error.
 #![tactic(auto)]
-
-ghost use Rattle.std.specs.Prelude.{◌≤◌, length};
 
 mod command;
 mod cuts;
+mod desk;
+mod digest;
+mod lent;
 mod line;
+mod outcome;
 mod show;
-mod words;
 
-use line::Line;
-use std::io::{Read, Write};
+use desk::Desk;
+use std::alloc::AllocError;
+use std::io::Read;
 
-// Takes a byte of the script, and answers what has been read of the line. At its end the line's
-// command is made.
-fn byte(
-    to: &mut impl Write,
-    line: Line,
-    x: u8,
-    list: &mut [u32],
-    space: &mut [u32],
-    cut: &mut [u32],
-    again: &mut [u32],
-) -> Line {
-    if x == b'\n' {
-        let whole = line.token(list).lend(list);
-        command::make(to, whole, list, space, cut, again);
-        return Line::start(whole.pages, whole.words, whole.length);
-    }
-    show::byte(to, x);
-    if x == b' ' {
-        return line.token(list);
-    }
-    line.sign(x)
-}
+// So many bytes of the script are read.
+const MOST: usize = 65536;
 
-// Takes the whole script.
-fn script(to: &mut impl Write, text: &[u8], space: &mut [u32]) {
-    let mut list = [0u32; 2048];
-    let mut cut = [0u32; 4096];
-    let mut again = [0u32; 4096];
-    let mut line = Line::start(0, 0, 0);
-    for at in 0..text.len() {
-        line = byte(to, line, text[at], &mut list, space, &mut cut, &mut again);
-    }
-}
-
-// Reads what has come of the input behind the bytes that are there, and gives the number of bytes
-// then. It is the same where the input ends or cannot be read, and where there is no room for more.
-fn read_more(from: &mut impl Read, text: &mut [u8], filled: usize) -> usize
-    requires { filled ≤ length text.old }
-    ensures { (filled ≤ result) × (result ≤ length text.old) }
-{
-    match from.read(&mut text[filled..]) {
-        Ok(count) => filled + count,
-        Err(_) => filled,
-    }
-}
-
-// Reads until the buffer is full or the input ends, and gives the number of bytes.
-fn read_full(from: &mut impl Read, text: &mut [u8]) -> usize
-    ensures { result ≤ length text.new }
-{
-    let mut filled = 0;
-    let mut more = true;
-    while more {
-        let next = read_more(from, text, filled);
-        more = filled < next;
-        filled = next;
-    }
-    filled
-}
-
-// There is space for the largest area and a word more.
-fn main(rt: HostRuntime) {
-    let mut to = rt.stdout();
-    let mut text = [0u8; 65536];
-    let length = read_full(&mut rt.stdin(), &mut text);
-    let mut space = [flash::BLANK; 262145];
-    script(&mut to, &text[..length], &mut space);
+// Reads the script, up to its end or to where it cannot be read, and takes it.
+fn main(rt: HostRuntime) -> Result<(), AllocError> {
+    let mut script = Vec::with_capacity(rt.alloc(), MOST)?;
+    let _ = rt.stdin().take(MOST as u64).read_to_end(&mut script);
+    let mut desk = Desk::new(rt.alloc(), rt.stdout())?;
+    desk.script(&script)
 }

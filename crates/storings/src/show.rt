@@ -1,96 +1,87 @@
-// Printing what was answered.
-use rules::{Answer, Area};
-use std::io::Write;
-use std::num::wrapping_add_usize;
+// What is lent, as it is printed: each number stands behind a blank.
+use rules::{Area, Reading};
+use std::fmt;
 
-// Writes one byte.
-pub fn byte(to: &mut impl Write, x: u8) {
-    let _ = to.write_all(&[x]);
+// So many words of a run from a place on, 0 where there is none.
+#[derive(Clone, Copy)]
+pub struct Words<'a> {
+    pub run: &'a [u32],
+    pub place: usize,
+    pub count: usize,
 }
 
-// Writes a number of so many digits at least, behind a blank.
-fn hex(to: &mut impl Write, x: u64, digits: usize) {
-    byte(to, b' ');
-    let _ = write!(to, "{x:0digits$x}");
-}
-
-// Writes a digest.
-pub fn digest(to: &mut impl Write, sum: u64) {
-    let _ = to.write_all(b" #");
-    let _ = write!(to, "{sum:011x}");
-}
-
-// Writes the mark for a space that is too small, and ends the line.
-pub fn small(to: &mut impl Write) {
-    let _ = to.write_all(b"!\n");
-}
-
-// Writes an answer's number and its stores.
-pub fn answer(to: &mut impl Write, answer: Answer) {
-    hex(to, answer.number() as u64, 2);
-    byte(to, b' ');
-    let _ = write!(to, "{}", answer.stores() as u64);
-}
-
-// Writes so many words of a run from a place on.
-pub fn words(to: &mut impl Write, run: &[u32], place: usize, count: usize) {
-    let mut at = place;
-    for _ in 0..count {
-        hex(to, flash::word(run, at) as u64, 8);
-        at = wrapping_add_usize(at, 1);
-    }
-}
-
-// Reads a handle, and writes the number, the place, the count of words, and the words.
-pub fn reading(to: &mut impl Write, run: &[u32], area: Area, handle: u16) {
-    let answer = manager::read(run, area, handle);
-    hex(to, answer.number() as u64, 2);
-    hex(to, answer.place() as u64, 1);
-    hex(to, answer.words() as u64, 1);
-    words(
-        to,
-        run,
-        wrapping_add_usize(answer.place(), 1),
-        answer.words(),
-    );
-}
-
-// Makes a step of a search. Writes the handle that it yields and the words that a read then finds, or
-// the number of a refusal, and answers the place, 0 if refused.
-fn next(
-    to: &mut impl Write,
-    run: &[u32],
-    area: Area,
-    mask: u16,
-    pattern: u16,
-    place: usize,
-) -> usize {
-    let yielded = searching::search(run, area, mask, pattern, place);
-    let found = yielded.place();
-    if found == 0 {
-        hex(to, yielded.number() as u64, 2);
-        return 0;
-    }
-    let handle = (flash::word(run, found) / 65536) as u16;
-    let answer = manager::read(run, area, handle);
-    hex(to, handle as u64, 4);
-    words(
-        to,
-        run,
-        wrapping_add_usize(answer.place(), 1),
-        answer.words(),
-    );
-    byte(to, b',');
-    found
-}
-
-// Makes a whole search, to the first step that is refused.
-pub fn map(to: &mut impl Write, run: &[u32], area: Area, mask: u16, pattern: u16) {
-    let mut place = 0;
-    for _ in 0..run.len() {
-        place = next(to, run, area, mask, pattern, place);
-        if place == 0 {
-            break;
+impl fmt::Display for Words<'_> {
+    // Each word in eight digits.
+    fn fmt<W: fmt::Write>(&self, f: &mut fmt::Formatter<W>) -> fmt::Result {
+        for at in self.place..self.place.saturating_add(self.count) {
+            write!(f, " {:08x}", flash::word(self.run, at))?;
         }
+        Ok(())
+    }
+}
+
+// The words that a read of a handle finds.
+fn found(run: &[u32], reading: Reading) -> Words<'_> {
+    Words {
+        run,
+        place: rules::reading_place(reading).saturating_add(1),
+        count: rules::reading_words(reading),
+    }
+}
+
+// A read of a handle: the number, the place, the count of words, and the words.
+#[derive(Clone, Copy)]
+pub struct Entry<'a> {
+    pub run: &'a [u32],
+    pub area: Area,
+    pub handle: u16,
+}
+
+impl fmt::Display for Entry<'_> {
+    // The number in two digits, place and count, and the words.
+    fn fmt<W: fmt::Write>(&self, f: &mut fmt::Formatter<W>) -> fmt::Result {
+        let reading = manager::read(self.run, self.area, self.handle);
+        write!(
+            f,
+            " {:02x} {:x} {:x}{}",
+            rules::number(reading),
+            rules::reading_place(reading),
+            rules::reading_words(reading),
+            found(self.run, reading)
+        )
+    }
+}
+
+// A whole search: each handle that it yields, with the words that a read then finds, and the number of
+// the first step that is refused.
+#[derive(Clone, Copy)]
+pub struct Map<'a> {
+    pub run: &'a [u32],
+    pub area: Area,
+    pub mask: u16,
+    pub pattern: u16,
+}
+
+impl Map<'_> {
+    // Writes the handle of the entry at a place, and the words that a read of it finds.
+    fn write_entry<W: fmt::Write>(&self, f: &mut fmt::Formatter<W>, place: usize) -> fmt::Result {
+        let handle = (flash::word(self.run, place) / 65536) as u16;
+        let reading = manager::read(self.run, self.area, handle);
+        write!(f, " {handle:04x}{},", found(self.run, reading))
+    }
+}
+
+impl fmt::Display for Map<'_> {
+    // Each handle with its words and a comma behind it, and the last number.
+    fn fmt<W: fmt::Write>(&self, f: &mut fmt::Formatter<W>) -> fmt::Result {
+        let mut place = 0;
+        for _ in self.run {
+            match searching::search(self.run, self.area, self.mask, self.pattern, place) {
+                Ok(next) => place = next,
+                Err(why) => return write!(f, " {:02x}", why.number()),
+            }
+            self.write_entry(f, place)?;
+        }
+        Ok(())
     }
 }

@@ -18,7 +18,8 @@ use Rattle.rules.specs.Lists.{lowest, leaves_room, room_page, makes_room, compac
 use Rattle.rules.specs.Places.{Right, base_suc}
 use Rattle.rules.specs.Laws.{live_append, live_anywhere}
 use Rattle.pages.specs.Steps.{length_at}
-use Rattle.entries.specs.Noting.{all_noted, any_handle, blank_map, nothing}
+use Rattle.entries.specs.Noting.{all_noted, any_handle, blank_map, nothing, kept, unseen}
+use Rattle.entries.specs.declared.doubles.Seen.{Seen}
 use Rattle.area.specs.Checks.{base_fits, end_fits}
 use Rattle.survey.specs.declared.FoundPage.{FoundPage}
 use Rattle.survey.specs.declared.Asked.{Asked}
@@ -27,7 +28,6 @@ use Rattle.survey.specs.declared.Sought.{Sought}
 use Rattle.survey.specs.declared.walk.Walk.{Walk}
 use Rattle.survey.specs.Surveying.{found_page, view_of}
 use Rattle.survey.specs.Walking.{or_if, or_none, or_or, Gathering, gathering_start, gathering_some, Standing, WalkedOn, Touring, Toured, touring_start, tour_inside, standing, touring_on, touring_end}
-use Rattle.rules.specs.declared.Found.{Found}
 
 -- ---- the page that is found first
 abbrev pub lower_of : Option FoundPage → Bool → ℕ → ℕ → Option FoundPage
@@ -112,7 +112,6 @@ summary_on b q i w k =
     record {
       sound = b.sound && (names q.recovery i || is_sound k);
       sealed = b.sealed && is_sealed k;
-      seen = w.seen;
       entry = w.found;
       live = b.live + w.live;
       compact = lower_of b.compact (leb (w.live + q.needed) (open_words (words_of q.size))) i w.stop;
@@ -120,7 +119,7 @@ summary_on b q i w k =
 
 pub summary_on_is : (b : Summary) (q : Asked) (i : ℕ) (w : Walk) {k t : Kind} {x y z : Bool} {c : Option FoundPage} {d : ℕ} → k ≡ t → x ≡ names q.recovery i → y ≡ is_sound k → z ≡ is_sealed k
     → d ≡ open_words (words_of q.size) → c ≡ lower_of b.compact (leb (w.live + q.needed) d) i w.stop
-    → record { sound = b.sound && (x || y); sealed = b.sealed && z; seen = w.seen; entry = w.found; live = b.live + w.live; compact = c } ≡ summary_on b q i w t
+    → record { sound = b.sound && (x || y); sealed = b.sealed && z; entry = w.found; live = b.live + w.live; compact = c } ≡ summary_on b q i w t
 unfolding summary_on
 summary_on_is b q i w e x y z d c = rw (c, d, x, y, z, e)
 
@@ -138,15 +137,15 @@ pub record Fitting (a : Area) (f : List ℕ) (q : Asked) : Type 0 where
   pub recovery : q.recovery ≡ recovery a f
   pub needed : q.needed ≤ longest
 
-pub record Passing (a : Area) (f : List ℕ) (q : Asked) (i : ℕ) (m : List ℕ) (r : Summary) : Type 0 where
+pub record Passing (a : Area) (f : List ℕ) (q : Asked) (i : ℕ) (m : Seen) (r : Summary) : Type 0 where
   pub sound : Testing (sound_or_named a f) a.pages i r.sound
   pub sealed : Testing (sealed_at a f) a.pages i r.sealed
-  pub entries : Gathering q.handle (entries a f) blank_map None nothing (entries_from a f (a.pages - i) i) m r.entry r.seen
+  pub entries : Gathering q.handle (entries a f) blank_map None nothing (entries_from a f (a.pages - i) i) m.map r.entry (kept m)
   pub live : Summing a f i r.live
   pub compact : Seeking a f (makes_room a f q.needed) i r.compact
 
 -- ---- a page is passed
-module _ {a : Area} {f : List ℕ} {q : Asked} {i : ℕ} {m : List ℕ} {r : Summary} (s : Passing a f q i m r) where
+module _ {a : Area} {f : List ℕ} {q : Asked} {i : ℕ} {m : Seen} {r : Summary} (s : Passing a f q i m r) where
   module _ (g : Right a f) (l : i < a.pages) where
     pub place_fits : Fits w64 (i * a.words)
     place_fits = base_fits i g (omega arith)
@@ -157,7 +156,7 @@ module _ {a : Area} {f : List ℕ} {q : Asked} {i : ℕ} {m : List ℕ} {r : Sum
   pub part_long : (p : List ℕ) → Right a f → length p ≡ a.words → 2 ≤ length p
   part_long p g e = let w = g.wide in omega arith
 
-  module _ {p : List ℕ} {w : Walk} {k : List ℕ} (t : Toured p (i * a.words) q.handle m r.entry r.seen w k) (e : length p ≡ a.words) where
+  module _ {p : List ℕ} {w : Walk} {k : Seen} (t : Toured p (i * a.words) q.handle m r.entry w k) (e : length p ≡ a.words) where
     pub can_count : Right a f → i < a.pages → Counted r w
     can_count g l =
         let n = g.narrow in
@@ -172,7 +171,7 @@ module _ {a : Area} {f : List ℕ} {q : Asked} {i : ℕ} {m : List ℕ} {r : Sum
       live_at : w.live ≡ live_words (page_entries a f i)
       live_at = t.live ∙ rw y (live_anywhere 2 (base a i + 2) (items (page a f i)))
 
-      entries_on : Gathering q.handle (entries a f) blank_map None nothing (entries_from a f (a.pages - suc i) (suc i)) k w.found w.seen
+      entries_on : Gathering q.handle (entries a f) blank_map None nothing (entries_from a f (a.pages - suc i) (suc i)) k.map w.found (kept k)
       unfolding base
       entries_on = gathering_some (page_entries a f i) (rw (one_less a.pages i l) at s.entries) (rw y at t.map) (rw y at t.found) (rw y at t.seen)
 
@@ -190,7 +189,7 @@ module _ {a : Area} {f : List ℕ} {q : Asked} {i : ℕ} {m : List ℕ} {r : Sum
       })
 
 passing_start : {a : Area} {f : List ℕ} {q : Asked}
-    → Passing a f q 0 blank_map (record { sound = true; sealed = true; seen = nothing; entry = None; live = 0; compact = None })
+    → Passing a f q 0 unseen (record { sound = true; sealed = true; entry = None; live = 0; compact = None })
 unfolding entries
 passing_start {a} {f} {q} =
     record {
@@ -202,14 +201,14 @@ passing_start {a} {f} {q} =
     }
 
 -- ---- all were
-pub record AllPassed (a : Area) (f : List ℕ) (h n : ℕ) (r : Sought) : Type 0 where
+pub record AllPassed (a : Area) (f : List ℕ) (h n : ℕ) (m : Seen) (r : Sought) : Type 0 where
   pub sound : r.summary.sound ≡ every (sound_or_named a f) a.pages 0
   pub sealed : r.summary.sealed ≡ every (sealed_at a f) a.pages 0
-  pub seen : r.summary.seen ≡ all_noted any_handle blank_map nothing (entries a f)
+  pub seen : kept m ≡ all_noted any_handle blank_map nothing (entries a f)
   pub view : record { entry = r.summary.entry; live = r.summary.live; room = r.room; compact = r.summary.compact } ≡ view_of a f h n
 
-pub passing_end : {a : Area} {f : List ℕ} {q : Asked} {i : ℕ} {m : List ℕ} {r : Summary} {o : Option FoundPage} → Passing a f q i m r → a.pages ≤ i
-    → o ≡ found_page a f (room_page a f q.needed) → AllPassed a f q.handle q.needed (record { room = o; passed = i; summary = r })
+pub passing_end : {a : Area} {f : List ℕ} {q : Asked} {i : ℕ} {m : Seen} {r : Summary} {o : Option FoundPage} → Passing a f q i m r → a.pages ≤ i
+    → o ≡ found_page a f (room_page a f q.needed) → AllPassed a f q.handle q.needed m (record { room = o; passed = i; summary = r })
 unfolding view_of compact_page
 passing_end {a} {f} {q} {i} {m} {r} s l w =
     let z = none_left a.pages i l in
@@ -224,26 +223,26 @@ passing_end {a} {f} {q} {i} {m} {r} s l w =
 pub ruleset passes = (passing_end, place_fits, part_fits, part_long, can_count, passing_on)
 
 -- ---- the pages before i were passed, and none of them has room
-pub record Roomless (a : Area) (f : List ℕ) (q : Asked) (i : ℕ) (m : List ℕ) (r : Summary) : Type 0 where
+pub record Roomless (a : Area) (f : List ℕ) (q : Asked) (i : ℕ) (m : Seen) (r : Summary) : Type 0 where
   pub passing : Passing a f q i m r
   pub room : Seeking a f (leaves_room a f q.needed) i None
 
 -- the lowest that has room was sought
-pub record RoomSought (a : Area) (f : List ℕ) (q : Asked) (m : List ℕ) (r : Sought) : Type 0 where
+pub record RoomSought (a : Area) (f : List ℕ) (q : Asked) (m : Seen) (r : Sought) : Type 0 where
   pub passing : Passing a f q r.passed m r.summary
   pub room : r.room ≡ found_page a f (room_page a f q.needed)
 
-pub roomless_start : {a : Area} {f : List ℕ} {q : Asked} {m : List ℕ} → m ≡ blank_map
-    → Roomless a f q 0 m (record { sound = true; sealed = true; seen = nothing; entry = None; live = 0; compact = None })
+pub roomless_start : {a : Area} {f : List ℕ} {q : Asked} {m : Seen} → m ≡ unseen
+    → Roomless a f q 0 m (record { sound = true; sealed = true; entry = None; live = 0; compact = None })
 roomless_start {a} {f} {q} e = rw e (record { passing = passing_start; room = seeking_start a f (leaves_room a f q.needed) })
 
-module _ {a : Area} {f : List ℕ} {q : Asked} {i : ℕ} {m : List ℕ} {r : Summary} (s : Roomless a f q i m r) where
+module _ {a : Area} {f : List ℕ} {q : Asked} {i : ℕ} {m : Seen} {r : Summary} (s : Roomless a f q i m r) where
   pub room_none : a.pages ≤ i → RoomSought a f q m (record { room = None; passed = i; summary = r })
   unfolding room_page
   room_none l = record { passing = s.passing; room = seeking_end s.room l }
 
 -- page i, which is p, is walked, and w and k are what its walk has come to; d is the last place of a seal that leaves the room for an entry
-pub record Entered (a : Area) (f : List ℕ) (q : Asked) (d i : ℕ) (m : List ℕ) (r : Summary) (p : List ℕ) (w : Walk) (k : List ℕ) : Type 0 where
+pub record Entered (a : Area) (f : List ℕ) (q : Asked) (d i : ℕ) (m : Seen) (r : Summary) (p : List ℕ) (w : Walk) (k : Seen) : Type 0 where
   pub right : Right a f
   pub fitting : Fitting a f q
   pub last : d ≡ last_seal (words_of q.size)
@@ -251,18 +250,18 @@ pub record Entered (a : Area) (f : List ℕ) (q : Asked) (d i : ℕ) (m : List �
   pub inside : i < a.pages
   pub part : p ≡ page a f i
   pub long : length p ≡ a.words
-  pub tour : Touring p (i * a.words) q.handle m r.entry r.seen w k
+  pub tour : Touring p (i * a.words) q.handle m r.entry w k
 
-pub page_fits : {a : Area} {f : List ℕ} {q : Asked} {i : ℕ} {m : List ℕ} {r : Summary} → Roomless a f q i m r → Right a f → i < a.pages → Fits w64 (i * a.words)
+pub page_fits : {a : Area} {f : List ℕ} {q : Asked} {i : ℕ} {m : Seen} {r : Summary} → Roomless a f q i m r → Right a f → i < a.pages → Fits w64 (i * a.words)
 page_fits s g l = place_fits s.passing g l
 
-pub entered : {a : Area} {f : List ℕ} {q : Asked} {d i : ℕ} {m : List ℕ} {r : Summary} {p : List ℕ} → Roomless a f q i m r → i < a.pages → p ≡ page a f i → length p ≡ a.words → Right a f
-    → Fitting a f q → d ≡ last_seal (words_of q.size) → Entered a f q d i m r p (record { stop = 2; live = 0; found = r.entry; seen = r.seen }) m
+pub entered : {a : Area} {f : List ℕ} {q : Asked} {d i : ℕ} {m : Seen} {r : Summary} {p : List ℕ} → Roomless a f q i m r → i < a.pages → p ≡ page a f i → length p ≡ a.words → Right a f
+    → Fitting a f q → d ≡ last_seal (words_of q.size) → Entered a f q d i m r p (record { stop = 2; live = 0; found = r.entry }) m
 entered s l y j g x o =
     let n = g.wide in
     record { right = g; fitting = x; last = o; before = s; inside = l; part = y; long = j; tour = touring_start (omega arith) }
 
-module _ {a : Area} {f : List ℕ} {q : Asked} {d i : ℕ} {m : List ℕ} {r : Summary} {p : List ℕ} {w : Walk} {k : List ℕ} (s : Entered a f q d i m r p w k) where
+module _ {a : Area} {f : List ℕ} {q : Asked} {d i : ℕ} {m : Seen} {r : Summary} {p : List ℕ} {w : Walk} {k : Seen} (s : Entered a f q d i m r p w k) where
   pub stop_fits : Fits w64 (w.stop + q.needed)
   stop_fits =
       let n = s.right.narrow in
@@ -275,7 +274,7 @@ module _ {a : Area} {f : List ℕ} {q : Asked} {d i : ℕ} {m : List ℕ} {r : S
     pub entry_standing : (n ≡ 0 → ⊥) → Standing p (i * a.words) w n
     entry_standing z = standing s.tour e z (part_fits s.before.passing s.right s.inside p s.long)
 
-    pub entered_on : {v : Walk} {h : List ℕ} → (n ≡ 0 → ⊥) → WalkedOn p (i * a.words) q.handle k w n v h → Entered a f q d i m r p v h
+    pub entered_on : {v : Walk} {h : Seen} → (n ≡ 0 → ⊥) → WalkedOn p (i * a.words) q.handle k w n v h → Entered a f q d i m r p v h
     entered_on z x =
         record {
           right = s.right;
@@ -289,7 +288,7 @@ module _ {a : Area} {f : List ℕ} {q : Asked} {d i : ℕ} {m : List ℕ} {r : S
         }
 
     module _ (z : n ≡ 0) where
-      toured : Toured p (i * a.words) q.handle m r.entry r.seen w k
+      toured : Toured p (i * a.words) q.handle m r.entry w k
       toured = touring_end s.tour e z
 
       pub page_stop : w.stop ≡ stop p

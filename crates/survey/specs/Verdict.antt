@@ -1,6 +1,6 @@
 -- What a look and a survey give, from what they have found: laws. Assumes nothing.
 use Rattle.std.specs.Prelude.{◌≡◌, List, [], ◌∷◌, Bool, true, false, not, ◌&&◌, ℕ, ◌≤◌, Option, Some, None, Result, Ok, Err}
-use Rattle.std.proofs.Math.Path.{sym}
+use Rattle.std.proofs.Math.Path.{sym, ap}
 use Rattle.std.proofs.Math.Bool.{and_assoc}
 use borrow.Author.Tests.{not-true, not-false}
 use Rattle.rules.specs.declared.Area.{Area}
@@ -12,6 +12,8 @@ use Rattle.rules.specs.Words.{words_of, size_of, longest}
 use Rattle.rules.specs.Areas.{every, recovery, is_free, is_damage, sealed_at, entries, twice, damaged, ready}
 use Rattle.rules.specs.Refusals.{is_listed, wrong_geometry, unready}
 use Rattle.area.specs.Checks.{geometry_right}
+use Rattle.entries.specs.declared.doubles.Seen.{Seen}
+use Rattle.entries.specs.Noting.{Kept}
 use Rattle.survey.specs.declared.Sought.{Sought}
 use Rattle.survey.specs.declared.Sight.{Sight}
 use Rattle.survey.specs.Surveying.{view_of, all_sealed, sight_of, looked, surveyed}
@@ -35,7 +37,7 @@ module _ {g : Bool} (a : Area) (f : List ℕ) (h n : ℕ) (e : g ≡ wrong_geome
     unfolding damaged
     shows_damage u = rw (← e, t, ← q, ← k, u)
 
-    module _ {r : Sought} (u : d ≡ false) (p : AllPassed a f h n r) where
+    module _ {r : Sought} {m : Seen} (u : d ≡ false) (p : AllPassed a f h n m r) where
       pub shows_unsound : not r.summary.sound ≡ true → Err Damaged ≡ looked a f h n
       unfolding damaged
       shows_unsound s = rw (← e, t, ← q, ← k, u, ← p.sound, s)
@@ -53,9 +55,9 @@ module _ {g : Bool} (a : Area) (f : List ℕ) (h n : ℕ) (e : g ≡ wrong_geome
         shows_unsealed v = rw (← e, t, undamaged, all_sealed_is, not-true (b && r.summary.sealed) v)
 
         pub shows_sealed : not (b && r.summary.sealed) ≡ false
-            → Ok (Some (record { view = record { entry = r.summary.entry; live = r.summary.live; room = r.room; compact = r.summary.compact }; windows = r.summary.seen.windows })) ≡ looked a f h n
+            → Ok (Some (record { view = record { entry = r.summary.entry; live = r.summary.live; room = r.room; compact = r.summary.compact }; windows = m.windows })) ≡ looked a f h n
         unfolding sight_of
-        shows_sealed v = rw (← e, t, undamaged, all_sealed_is, not-false (b && r.summary.sealed) v, p.view, p.seen)
+        shows_sealed v = rw (← e, t, undamaged, all_sealed_is, not-false (b && r.summary.sealed) v, p.view, ap (λ (k : Kept). k.windows) p.seen)
 
 pub ruleset looks = (geometry_right, geometry_listed, fitting, shows_geometry, shows_damage, shows_unsound, shows_unsealed, shows_sealed)
 

@@ -14,7 +14,7 @@ use Rattle.rules.specs.Areas.{Entry, placed, live_of, find, live_words}
 use Rattle.pages.specs.Steps.{length_at, walk_at, counted, Walking, walking_start, walking_on, walking_end, Counting, counting_start, counting_on, counting_end, counted_live, counted_dead, goes_on, data_words_length, at_header, stops}
 use Rattle.entries.specs.declared.doubles.Seen.{Seen}
 use Rattle.entries.specs.Ahead.{found_of}
-use Rattle.entries.specs.Noting.{marked, noted, unmarked, unnoted, is_noted, all_marked, all_noted, any_handle}
+use Rattle.entries.specs.Noting.{Kept, kept, marked, noted, unmarked, unnoted, is_noted, all_marked, all_noted, any_handle}
 use Rattle.survey.specs.declared.walk.Walk.{Walk}
 use Rattle.rules.specs.declared.Found.{Found}
 
@@ -47,20 +47,20 @@ kept_of o t p n = or_if o t (record { place = p; words = n })
 
 -- ---- entries are passed, one behind the other
 -- the entries es are to be passed with a map m, a found entry o and s kept beside the map; ds are still ahead
-pub record Gathering (h : ℕ) (es : List Entry) (m : List ℕ) (o : Option Found) (s : Seen) (ds : List Entry) (m' : List ℕ) (o' : Option Found) (s' : Seen) : Type 0 where
+pub record Gathering (h : ℕ) (es : List Entry) (m : List ℕ) (o : Option Found) (s : Kept) (ds : List Entry) (m' : List ℕ) (o' : Option Found) (s' : Kept) : Type 0 where
   pub map : all_marked any_handle m' ds ≡ all_marked any_handle m es
   pub found : option_or o' (found_of (find h ds)) ≡ option_or o (found_of (find h es))
   pub seen : all_noted any_handle m' s' ds ≡ all_noted any_handle m s es
 
-pub gathering_start : (h : ℕ) (es : List Entry) (m : List ℕ) (o : Option Found) (s : Seen) → Gathering h es m o s es m o s
+pub gathering_start : (h : ℕ) (es : List Entry) (m : List ℕ) (o : Option Found) (s : Kept) → Gathering h es m o s es m o s
 gathering_start h es m o s = record { map = refl; found = refl; seen = refl }
 
 found_first : (t : Bool) (e : Entry) (o : Option Entry) → option_or (then_some t (record { place = e.place; words = length e.words })) (found_of o) ≡ found_of (cond t (Some e) o)
 found_first true e o = refl
 found_first false e o = refl
 
-module _ {h : ℕ} {es : List Entry} {m : List ℕ} {o : Option Found} {s : Seen} {m' : List ℕ} {o' : Option Found} {s' : Seen} where
-  gathering_on : {ds : List Entry} {m'' : List ℕ} {o'' : Option Found} {s'' : Seen} (e : Entry) → Gathering h es m o s (e ∷ ds) m' o' s' → m'' ≡ marked m' (is_live e.handle) e.handle
+module _ {h : ℕ} {es : List Entry} {m : List ℕ} {o : Option Found} {s : Kept} {m' : List ℕ} {o' : Option Found} {s' : Kept} where
+  gathering_on : {ds : List Entry} {m'' : List ℕ} {o'' : Option Found} {s'' : Kept} (e : Entry) → Gathering h es m o s (e ∷ ds) m' o' s' → m'' ≡ marked m' (is_live e.handle) e.handle
       → o'' ≡ option_or o' (then_some (live_of h e) (record { place = e.place; words = length e.words })) → s'' ≡ noted m' s' (is_live e.handle) e.handle → Gathering h es m o s ds m'' o'' s''
   gathering_on {ds} e g u v w =
       let a : is_noted any_handle e ≡ is_live e.handle = and-true (is_live e.handle) in
@@ -85,11 +85,11 @@ marked_append : (m : List ℕ) (x y : List Entry) → all_marked any_handle (all
 marked_append m [] y = refl
 marked_append m (e ∷ x) y = marked_append (marked m (is_noted any_handle e) e.handle) x y
 
-noted_append : (m : List ℕ) (s : Seen) (x y : List Entry) → all_noted any_handle (all_marked any_handle m x) (all_noted any_handle m s x) y ≡ all_noted any_handle m s (x ++ y)
+noted_append : (m : List ℕ) (s : Kept) (x y : List Entry) → all_noted any_handle (all_marked any_handle m x) (all_noted any_handle m s x) y ≡ all_noted any_handle m s (x ++ y)
 noted_append m s [] y = refl
 noted_append m s (e ∷ x) y = noted_append (marked m (is_noted any_handle e) e.handle) (noted m s (is_noted any_handle e) e.handle) x y
 
-pub gathering_some : {h : ℕ} {es : List Entry} {m : List ℕ} {o : Option Found} {s : Seen} (x : List Entry) {y : List Entry} {m' m'' : List ℕ} {o' o'' : Option Found} {s' s'' : Seen}
+pub gathering_some : {h : ℕ} {es : List Entry} {m : List ℕ} {o : Option Found} {s : Kept} (x : List Entry) {y : List Entry} {m' m'' : List ℕ} {o' o'' : Option Found} {s' s'' : Kept}
     → Gathering h es m o s (x ++ y) m' o' s' → m'' ≡ all_marked any_handle m' x → o'' ≡ option_or o' (found_of (find h x)) → s'' ≡ all_noted any_handle m' s' x → Gathering h es m o s y m'' o'' s''
 gathering_some {h} x {y} {m'} {o' = o'} {s'} g u v w =
     record {
@@ -132,7 +132,7 @@ pub record Standing (p : List ℕ) (b : ℕ) (w : Walk) (n : ℕ) : Type 0 where
   pub fits : Fits w64 (b + length p)
 
 -- it is passed
-pub record WalkedOn (p : List ℕ) (b h : ℕ) (m : List ℕ) (w : Walk) (n : ℕ) (r : Walk) (m' : List ℕ) : Type 0 where
+pub record WalkedOn (p : List ℕ) (b h : ℕ) (v : Seen) (w : Walk) (n : ℕ) (r : Walk) (v' : Seen) : Type 0 where
   pub stop : r.stop ≡ w.stop + n
   pub own : ℕ
   pub handle : own ≡ handle_of (get_or p w.stop 0)
@@ -141,8 +141,8 @@ pub record WalkedOn (p : List ℕ) (b h : ℕ) (m : List ℕ) (w : Walk) (n : �
   pub small : count ≤ n
   pub live : r.live ≡ w.live + count
   pub found : r.found ≡ kept_of w.found (not (eqb h 0) && eqb own h) (b + w.stop) (n - 1)
-  pub seen : r.seen ≡ noted m w.seen (not (eqb own 0)) own
-  pub map : m' ≡ marked m (not (eqb own 0)) own
+  pub seen : kept v' ≡ noted v.map (kept v) (not (eqb own 0)) own
+  pub map : v'.map ≡ marked v.map (not (eqb own 0)) own
 
 -- handle 0000 is never the wanted one
 never : (h : ℕ) → not (eqb h 0) && eqb 0 h ≡ false
@@ -159,9 +159,9 @@ always h k z = go (eqb h 0) refl
     go true q = sym (ne_eqb k h (λ r. z (r ∙ eqb-true h 0 q)))
     go false q = refl
 
-module _ {p : List ℕ} {b h : ℕ} {m : List ℕ} {w : Walk} {n k : ℕ} (e : k ≡ handle_of (get_or p w.stop 0)) where
+module _ {p : List ℕ} {b h : ℕ} {v : Seen} {w : Walk} {n k : ℕ} (e : k ≡ handle_of (get_or p w.stop 0)) where
   -- invalidated
-  pub walked_over : {o : Option Found} → k ≡ 0 → o ≡ w.found → WalkedOn p b h m w n (record { stop = w.stop + n; live = w.live; found = o; seen = w.seen }) m
+  pub walked_over : {o : Option Found} → k ≡ 0 → o ≡ w.found → WalkedOn p b h v w n (record { stop = w.stop + n; live = w.live; found = o }) v
   unfolding or_if
   walked_over z q =
       let d : not (eqb k 0) ≡ false = rw (eq-eqb k 0 z) in
@@ -174,13 +174,13 @@ module _ {p : List ℕ} {b h : ℕ} {m : List ℕ} {w : Walk} {n k : ℕ} (e : k
         small = omega arith;
         live = omega arith;
         found = rw (z, never h) (q ∙ sym (or_none w.found));
-        seen = unnoted (not (eqb k 0)) m k d w.seen;
-        map = unmarked (not (eqb k 0)) m k d;
+        seen = unnoted (not (eqb k 0)) v.map k d (kept v);
+        map = unmarked (not (eqb k 0)) v.map k d;
       }
 
   -- live
-  pub walked_live : {o : Option Found} {s : Seen} {m' : List ℕ} → (k ≡ 0 → ⊥) → o ≡ kept_of w.found (eqb k h) (b + w.stop) (n - 1) → s ≡ noted m w.seen true k → m' ≡ marked m true k
-      → WalkedOn p b h m w n (record { stop = w.stop + n; live = w.live + n; found = o; seen = s }) m'
+  pub walked_live : {o : Option Found} {v' : Seen} → (k ≡ 0 → ⊥) → o ≡ kept_of w.found (eqb k h) (b + w.stop) (n - 1) → kept v' ≡ noted v.map (kept v) true k → v'.map ≡ marked v.map true k
+      → WalkedOn p b h v w n (record { stop = w.stop + n; live = w.live + n; found = o }) v'
   walked_live z o s q =
       record {
         stop = refl;
@@ -198,30 +198,30 @@ module _ {p : List ℕ} {b h : ℕ} {m : List ℕ} {w : Walk} {n k : ℕ} (e : k
 pub ruleset steps = (walked_over, walked_live)
 
 -- ---- a page is walked
-pub record Touring (p : List ℕ) (b h : ℕ) (m : List ℕ) (o : Option Found) (s : Seen) (w : Walk) (m' : List ℕ) : Type 0 where
+pub record Touring (p : List ℕ) (b h : ℕ) (v : Seen) (o : Option Found) (w : Walk) (v' : Seen) : Type 0 where
   pub walking : Walking p w.stop
   pub counting : Counting p w.stop w.live
-  pub gathering : Gathering h (entries_in b p 2) m o s (entries_in b p w.stop) m' w.found w.seen
+  pub gathering : Gathering h (entries_in b p 2) v.map o (kept v) (entries_in b p w.stop) v'.map w.found (kept v')
 
 -- it was
-pub record Toured (p : List ℕ) (b h : ℕ) (m : List ℕ) (o : Option Found) (s : Seen) (r : Walk) (m' : List ℕ) : Type 0 where
+pub record Toured (p : List ℕ) (b h : ℕ) (v : Seen) (o : Option Found) (r : Walk) (v' : Seen) : Type 0 where
   pub stop : r.stop ≡ stop p
   pub inside : r.stop ≤ length p
   pub live : r.live ≡ live_words (placed 2 (items p))
   pub below : r.live ≤ length p
   pub found : r.found ≡ option_or o (found_of (find h (placed (b + 2) (items p))))
-  pub seen : r.seen ≡ all_noted any_handle m s (placed (b + 2) (items p))
-  pub map : m' ≡ all_marked any_handle m (placed (b + 2) (items p))
+  pub seen : kept v' ≡ all_noted any_handle v.map (kept v) (placed (b + 2) (items p))
+  pub map : v'.map ≡ all_marked any_handle v.map (placed (b + 2) (items p))
 
-pub touring_start : {p : List ℕ} {b h : ℕ} {m : List ℕ} {o : Option Found} {s : Seen} → 2 ≤ length p → Touring p b h m o s (record { stop = 2; live = 0; found = o; seen = s }) m
-touring_start {p} {b} {h} {m} {o} {s} l = record { walking = walking_start l; counting = counting_start l; gathering = gathering_start h (entries_in b p 2) m o s }
+pub touring_start : {p : List ℕ} {b h : ℕ} {v : Seen} {o : Option Found} → 2 ≤ length p → Touring p b h v o (record { stop = 2; live = 0; found = o }) v
+touring_start {p} {b} {h} {v} {o} l = record { walking = walking_start l; counting = counting_start l; gathering = gathering_start h (entries_in b p 2) v.map o (kept v) }
 
-module _ {p : List ℕ} {b h : ℕ} {m : List ℕ} {o : Option Found} {s : Seen} {w : Walk} {m' : List ℕ} (t : Touring p b h m o s w m') where
+module _ {p : List ℕ} {b h : ℕ} {v : Seen} {o : Option Found} {w : Walk} {v' : Seen} (t : Touring p b h v o w v') where
   pub tour_inside : w.stop ≤ length p
   tour_inside = t.walking.inside
 
   module _ {n : ℕ} (e : n ≡ length_at p w.stop) where
-    pub touring_end : n ≡ 0 → Toured p b h m o s w m'
+    pub touring_end : n ≡ 0 → Toured p b h v o w v'
     touring_end z =
         let i = t.walking.inside in
         let c = t.counting.below in
@@ -240,7 +240,7 @@ module _ {p : List ℕ} {b h : ℕ} {m : List ℕ} {o : Option Found} {s : Seen}
     pub standing : (n ≡ 0 → ⊥) → Fits w64 (b + length p) → Standing p b w n
     standing z h = record { some = omega arith; inside = (walking_on t.walking e z).inside; below = t.counting.below; fits = h }
 
-    pub touring_on : (n ≡ 0 → ⊥) → {r : Walk} {m'' : List ℕ} → WalkedOn p b h m' w n r m'' → Touring p b h m o s r m''
+    pub touring_on : (n ≡ 0 → ⊥) → {r : Walk} {v'' : Seen} → WalkedOn p b h v' w n r v'' → Touring p b h v o r v''
     unfolding or_if
     touring_on z x =
         let g = rw (entries_on b p w.stop n e z) at t.gathering in

@@ -12,7 +12,7 @@ ghost use Rattle.rules.specs.Words.{words_of, size_of, longest};
 ghost use Rattle.rules.specs.Walk.{stop, kind_of};
 ghost use Rattle.rules.specs.Refusals.{is_listed, area_quota};
 ghost use Rattle.rules.specs.Places.{Right};
-ghost use Rattle.entries.specs.Noting.{blank_map};
+ghost use Rattle.entries.specs.Noting.{unseen};
 ghost use Rattle.survey.specs.Passing.{Counted, summary_on, Fitting, Passing, RoomSought, AllPassed};
 ghost use Rattle.survey.specs.Walking.{or_if};
 ghost use Rattle.survey.specs.Surveying.{looked, surveyed};
@@ -85,13 +85,12 @@ struct Asked {
 }
 
 // What is known of the pages that were passed: whether each is sealed or torn or named by R, whether
-// each is sealed, the handles noted, the live entry of the handle, the live words, and the lowest page
-// whose compaction makes the room.
+// each is sealed, the live entry of the handle, the live words, and the lowest page whose compaction
+// makes the room.
 #[derive(Clone, Copy)]
 struct Summary {
     sound: bool,
     sealed: bool,
-    seen: Seen,
     entry: Option<Found>,
     live: usize,
     compact: Option<FoundPage>,
@@ -132,7 +131,6 @@ fn summary_on(
     let size = asked.size;
     let recovery = asked.recovery;
     let compact = before.compact;
-    let seen = walk.seen;
     let entry = walk.found;
     let live = walk.live;
     let stop = walk.stop;
@@ -142,7 +140,6 @@ fn summary_on(
     Summary {
         sound: before.sound & sound,
         sealed: before.sealed & sealed,
-        seen,
         entry,
         live: before.live + live,
         compact: lower(compact, makes, FoundPage { index, stop }),
@@ -154,32 +151,30 @@ fn pass_page(
     flash: &[u32],
     area: Area,
     asked: Asked,
-    map: &mut [u64; 16],
+    seen: &mut Seen,
     before: Summary,
     index: usize,
 ) -> Summary
-    requires { Right area flash.now × Fitting area flash.now asked × (index < area.pages) × Passing area flash.now asked index map.old before }
-    ensures { Passing area flash.now asked (index + 1) map.new result }
+    requires { Right area flash.now × Fitting area flash.now asked × (index < area.pages) × Passing area flash.now asked index seen.old before }
+    ensures { Passing area flash.now asked (index + 1) seen.new result }
 {
     let page = page_part(flash, area, index);
     let entry = before.entry;
-    let seen = before.seen;
-    let walk = walk_page(page, index * area.words, asked.handle, map, entry, seen);
+    let walk = walk_page(page, index * area.words, asked.handle, seen, entry);
     summary_on(page, area, asked, before, index, walk)
 }
 
 // Searches, page by page and on each from entry to entry, for the lowest page whose seal leaves the
 // room, and passes it and those before it on the way; all, if none leaves it.
-fn seek_room(flash: &[u32], area: Area, asked: Asked, map: &mut [u64; 16]) -> Sought
-    requires { Right area flash.now × Fitting area flash.now asked × (map.old ≡ blank_map) }
-    ensures { RoomSought area flash.now asked map.new result }
+fn seek_room(flash: &[u32], area: Area, asked: Asked, seen: &mut Seen) -> Sought
+    requires { Right area flash.now × Fitting area flash.now asked × (seen.old ≡ unseen) }
+    ensures { RoomSought area flash.now asked seen.new result }
 {
     let size = asked.size;
     let last = size.last_seal();
     let mut summary = Summary {
         sound: true,
         sealed: true,
-        seen: Seen { top: 0, windows: 0 },
         entry: None,
         live: 0,
         compact: None,
@@ -196,12 +191,10 @@ fn seek_room(flash: &[u32], area: Area, asked: Asked, map: &mut [u64; 16]) -> So
         let page = page_part(flash, area, index);
         let base = index * area.words;
         let found = summary.entry;
-        let seen = summary.seen;
         let mut walk = Walk {
             stop: 2,
             live: 0,
             found,
-            seen,
         };
         summary = 'entries: loop {
             let stop = walk.stop;
@@ -216,41 +209,33 @@ fn seek_room(flash: &[u32], area: Area, asked: Asked, map: &mut [u64; 16]) -> So
                 }
                 break 'entries summary;
             };
-            walk = walk_on(page, base, asked.handle, map, walk, words);
+            walk = walk_on(page, base, asked.handle, seen, walk, words);
         };
         index += 1;
     }
 }
 
 // Passes all pages: those up to the one with room, and those behind it.
-fn pass_pages(flash: &[u32], area: Area, asked: Asked) -> Sought
-    requires { Right area flash.now × Fitting area flash.now asked }
-    ensures { AllPassed area flash.now asked.handle asked.needed result }
+fn pass_pages(flash: &[u32], area: Area, asked: Asked, seen: &mut Seen) -> Sought
+    requires { Right area flash.now × Fitting area flash.now asked × (seen.old ≡ unseen) }
+    ensures { AllPassed area flash.now asked.handle asked.needed seen.new result }
 {
-    let mut map = [0u64; 16];
-    let sought = seek_room(flash, area, asked, &mut map);
+    let sought = seek_room(flash, area, asked, seen);
     let room = sought.room;
     let mut summary = sought.summary;
-    let mut index = sought.passed;
-    while index < area.pages {
-        summary = pass_page(flash, area, asked, &mut map, summary, index);
-        index += 1;
+    for index in sought.passed..area.pages {
+        summary = pass_page(flash, area, asked, seen, summary, index);
     }
     Sought {
         room,
-        passed: index,
+        passed: area.pages,
         summary,
     }
 }
 
 // The checks that every request but a format begins with: GEOMETRY, DAMAGED; and, if R is free and
 // all pages are sealed, what is found for a handle and for an entry of so many words, else nothing.
-pub fn look(
-    flash: &[u32],
-    area: Area,
-    handle: u32,
-    needed: usize,
-) -> Result<Option<Sight>, Refusal>
+pub fn look(flash: &[u32], area: Area, handle: u32, needed: usize) -> Result<Option<Sight>, Refusal>
     requires { needed ≤ longest }
     ensures { result ≡ looked area flash.now handle needed }
 {
@@ -268,7 +253,8 @@ pub fn look(
         size,
         recovery,
     };
-    let sought = pass_pages(flash, area, asked);
+    let mut seen = Seen::new();
+    let sought = pass_pages(flash, area, asked, &mut seen);
     let summary = sought.summary;
     if !summary.sound {
         return Err(Refusal::Damaged);
@@ -276,7 +262,6 @@ pub fn look(
     if !(is_free(recovery) & summary.sealed) {
         return Ok(None);
     }
-    let seen = summary.seen;
     let entry = summary.entry;
     let room = sought.room;
     let compact = summary.compact;

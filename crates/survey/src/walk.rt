@@ -11,13 +11,12 @@ use entries::doubles::Seen;
 use rules::Found;
 
 // What a walk over a page's entries has come to: the place, which is in the end where the walk stops,
-// the page's live words before it, and the entry found and the handles noted so far.
+// the page's live words before it, and the entry found so far.
 #[derive(Clone, Copy)]
 pub struct Walk {
     pub stop: usize,
     pub live: usize,
     pub found: Option<Found>,
-    pub seen: Seen,
 }
 
 // The entry of so many words at a place of the page that begins at a place of the run. A walk comes
@@ -51,58 +50,49 @@ pub fn walk_on(
     page: &[u32],
     base: usize,
     handle: u32,
-    map: &mut [u64; 16],
+    seen: &mut Seen,
     walk: Walk,
     words: usize,
 ) -> Walk
     requires { Standing page.now base walk words }
-    ensures { WalkedOn page.now base handle map.old walk words result map.new }
+    ensures { WalkedOn page.now base handle seen.old walk words result seen.new }
 {
     let at = walk.stop;
     let live = walk.live;
     let found = walk.found;
-    let seen = walk.seen;
     let own = pages::handle_of(page[at]);
     let stop = at + words;
     if own == 0 {
-        return Walk {
-            stop,
-            live,
-            found,
-            seen,
-        };
+        return Walk { stop, live, found };
     }
-    let seen = entries::doubles::note(map, seen, own);
+    seen.note(own);
     let found = kept(found, own == handle, base, at, words);
     Walk {
         stop,
         live: live + words,
         found,
-        seen,
     }
 }
 
 // Walks the page that begins at a place of the run, and goes on with what is found of a handle and
-// with the handles that are noted.
+// with what is seen of handles.
 pub fn walk_page(
     page: &[u32],
     base: usize,
     handle: u32,
-    map: &mut [u64; 16],
+    seen: &mut Seen,
     found: Option<Found>,
-    seen: Seen,
 ) -> Walk
     requires { (2 ≤ length page.now) × Fits w64 (base + length page.now) }
-    ensures { Toured page.now base handle map.old found seen result map.new }
+    ensures { Toured page.now base handle seen.old found result seen.new }
 {
     let mut walk = Walk {
         stop: 2,
         live: 0,
         found,
-        seen,
     };
     while let Some(words) = pages::length_at(page, walk.stop) {
-        walk = walk_on(page, base, handle, map, walk, words);
+        walk = walk_on(page, base, handle, seen, walk, words);
     }
     walk
 }

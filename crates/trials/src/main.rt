@@ -4,58 +4,67 @@
 #![tactic(auto)]
 
 use flash::Power;
-use std::io::Write;
+use std::fmt;
 
-fn wide(x: u32) -> u64 {
-    x as u64
+// A step: at a place a word is stored, or from a place on so many words are erased.
+#[derive(Clone, Copy)]
+enum Step {
+    Store(usize, u32),
+    Erase(usize, usize),
 }
 
-fn show_word(to: &mut impl Write, run: &[u32], at: usize) {
-    let _ = write!(to, "{:08x}", wide(flash::word(run, at)));
-    let _ = to.write_all(b" ");
-}
+use Step::{Erase, Store};
 
-fn show(to: &mut impl Write, run: &[u32], power: Power) {
-    show_word(to, run, 0);
-    show_word(to, run, 1);
-    show_word(to, run, 2);
-    show_word(to, run, 3);
-    show_word(to, run, 4);
-    let _ = write!(to, "{:01x}", wide(power.left));
-    if power.cut {
-        let _ = to.write_all(b" cut");
+impl Step {
+    // Makes the step, and answers what it leaves of the power.
+    fn make(self, run: &mut [u32], power: Power) -> Power {
+        match self {
+            Store(at, word) => flash::store(run, at, word, power),
+            Erase(at, count) => flash::erase(run, at, count, power),
+        }
     }
-    let _ = to.write_all(b"\n");
 }
 
-fn store(to: &mut impl Write, run: &mut [u32], at: usize, word: u32, power: Power) -> Power {
-    let left = flash::store(run, at, word, power);
-    show(to, run, left);
-    left
+// The flash and its power, as they are printed.
+#[derive(Clone, Copy)]
+struct Shown<'a> {
+    run: &'a [u32],
+    power: Power,
 }
 
-fn erase(to: &mut impl Write, run: &mut [u32], at: usize, count: usize, power: Power) -> Power {
-    let left = flash::erase(run, at, count, power);
-    show(to, run, left);
-    left
+impl fmt::Display for Shown<'_> {
+    // The words, that of the place behind them, the stores that are left, and the cut.
+    fn fmt<W: fmt::Write>(&self, f: &mut fmt::Formatter<W>) -> fmt::Result {
+        for at in 0..=self.run.len() {
+            write!(f, "{:08x} ", flash::word(self.run, at))?;
+        }
+        write!(f, "{:x}", self.power.left)?;
+        if self.power.cut {
+            write!(f, " cut")?;
+        }
+        Ok(())
+    }
 }
 
 fn main(rt: HostRuntime) {
-    let mut to = rt.stdout();
-    let mut words = [0x5A5A_0F0Fu32; 4];
-    let run: &mut [u32] = &mut words;
-    let full = Power {
+    let mut run = [0x5A5A_0F0F; 4];
+    let mut power = Power {
         left: 7,
         cut: false,
     };
-    show(&mut to, run, full);
-    let a = erase(&mut to, run, 1, 2, full);
-    let b = store(&mut to, run, 1, 0x0012_0002, a);
-    let c = store(&mut to, run, 1, 0x7FFF_FFFF, b);
-    let d = store(&mut to, run, 4, 0, c);
-    let e = erase(&mut to, run, 3, 10, d);
-    let f = erase(&mut to, run, 9, 2, e);
-    let g = store(&mut to, run, 3, 0x7FFF_FFFF, f);
-    let h = store(&mut to, run, 2, 0, g);
-    erase(&mut to, run, 0, 4, h);
+    let _ = println!(rt; "{}", Shown { run: &run, power });
+    for step in [
+        Erase(1, 2),
+        Store(1, 0x0012_0002),
+        Store(1, 0x7FFF_FFFF),
+        Store(4, 0),
+        Erase(3, 10),
+        Erase(9, 2),
+        Store(3, 0x7FFF_FFFF),
+        Store(2, 0),
+        Erase(0, 4),
+    ] {
+        power = step.make(&mut run, power);
+        let _ = println!(rt; "{}", Shown { run: &run, power });
+    }
 }

@@ -1,11 +1,8 @@
--- `step` looks at one entry behind the other, from the place on. Assumes nothing.
-use Rattle.std.proofs.Common.{length}
-use Rattle.entries.specs.Ahead.{ahead}
+-- `step` looks at one entry behind the other. Assumes nothing.
+use Rattle.rules.specs.Search.{next, bad_place}
+use Rattle.entries.specs.Ahead.{left_of}
 use Rattle.entries.specs.Step.{Stepping}
 use Rattle.entries.proofs.step.Given as goal
 
-abbrev pub invariant-loop-cursor : goal.invariant-loop-cursor
-invariant-loop-cursor l = Stepping l.area l.flash l.mask l.pattern l.start l.cursor
-
-abbrev pub decreases-loop-cursor : goal.decreases-loop-cursor
-decreases-loop-cursor l = length (ahead l.area l.flash l.cursor)
+abbrev pub invariant-loop-entry : goal.invariant-loop-entry
+invariant-loop-entry l = (goal.iterator-loop-entry).can_next l.entry-iterator × (goal.iterator-loop-entry).is_finite l.entry-iterator × Stepping l.mask l.pattern (bad_place l.fn.area l.fn.flash l.fn.start) (next l.fn.area l.fn.flash l.mask l.pattern l.fn.start) (left_of l.entry-iterator)

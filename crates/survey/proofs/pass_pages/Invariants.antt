@@ -1,10 +1,6 @@
 -- `pass_pages` goes on behind the page with room, page by page. Assumes nothing.
-use Rattle.std.proofs.Common.{◌-◌}
 use Rattle.survey.specs.Passing.{Passing}
 use Rattle.survey.proofs.pass_pages.Given as goal
 
 abbrev pub invariant-loop-index : goal.invariant-loop-index
-invariant-loop-index l = Passing l.area l.flash l.asked l.index l.map l.summary
-
-abbrev pub decreases-loop-index : goal.decreases-loop-index
-decreases-loop-index l = l.area.pages - l.index
+invariant-loop-index l = Passing l.area l.flash l.asked l.index l.seen l.summary

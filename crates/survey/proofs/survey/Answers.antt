@@ -1,5 +1,5 @@
 -- `survey` looks, and looks for a handle that is live twice. Assumes nothing.
-use Rattle.std.specs.Prelude.{◌≡◌, Option, Some, None, Result, Ok}
+use Rattle.std.specs.Prelude.{◌≡◌, Some, None, Ok}
 use Rattle.std.proofs.Common.{ap, ◌∙◌, rules}
 use Rattle.survey.specs.Verdict.{verdicts}
 use Rattle.survey.proofs.survey.Goals as goal

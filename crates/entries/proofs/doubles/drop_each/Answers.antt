@@ -1,12 +1,15 @@
 -- `drop_each` asks of each entry whether its handle is live behind it. Assumes nothing.
-use Rattle.entries.specs.Doubles.{dropping_fewer, dropping_on, dropping_end}
+use Rattle.entries.specs.Doubles.{dropping_start, dropping_fewer, dropping_on, dropping_end}
 use Rattle.entries.proofs.doubles.drop_each.Goals as goal
 
-pub loop-cursor-smaller : goal.loop-cursor-smaller
-loop-cursor-smaller c = dropping_fewer c.loop-cursor.invariant c.after-next.ensures.0 c.after-next.ensures.1 c.drop_doubled-p.ensures c.loop-cursor-test.true
+pub loop-entry-init : goal.loop-entry-init
+loop-entry-init c = dropping_start c.first-cursor.ensures c.requires.0 c.requires.1
 
-pub loop-cursor-preserved : goal.loop-cursor-preserved
-loop-cursor-preserved c = dropping_on c.loop-cursor.invariant c.after-next.ensures.0 c.after-next.ensures.1 c.drop_doubled-p.ensures c.loop-cursor-test.true
+pub loop-entry-smaller : goal.loop-entry-smaller
+loop-entry-smaller c = dropping_fewer c.loop-entry.invariant c.in-Some.ensures.sound c.in-Some.ensures.gives c.drop_doubled-p.ensures
+
+pub loop-entry-preserved : goal.loop-entry-preserved
+loop-entry-preserved c = dropping_on c.loop-entry.invariant c.in-Some.ensures.sound c.in-Some.ensures.gives c.drop_doubled-p.ensures
 
 pub returns : goal.returns
-returns c = dropping_end c.loop-cursor.invariant c.loop-cursor-test.false
+returns c = dropping_end c.loop-entry.invariant c.in_default.ensures.gives.0

@@ -1,11 +1,9 @@
 -- `suspects` notes each live handle. Assumes nothing.
-use Rattle.std.proofs.Common.{length}
-use Rattle.entries.specs.Ahead.{ahead}
+use Rattle.rules.specs.Areas.{entries}
+use Rattle.entries.specs.Ahead.{left_of}
+use Rattle.entries.specs.Noting.{kept}
 use Rattle.entries.specs.Sweeping.{Hearing}
 use Rattle.entries.proofs.doubles.suspects.Given as goal
 
-abbrev pub invariant-loop-cursor : goal.invariant-loop-cursor
-invariant-loop-cursor l = Hearing l.area l.flash l.cursor l.map l.seen
-
-abbrev pub decreases-loop-cursor : goal.decreases-loop-cursor
-decreases-loop-cursor l = length (ahead l.area l.flash l.cursor)
+abbrev pub invariant-loop-entry : goal.invariant-loop-entry
+invariant-loop-entry l = (goal.iterator-loop-entry).can_next l.entry-iterator × (goal.iterator-loop-entry).is_finite l.entry-iterator × Hearing (entries l.fn.area l.fn.flash) (left_of l.entry-iterator) l.seen.map (kept l.seen)

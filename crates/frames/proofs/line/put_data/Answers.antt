@@ -1,7 +1,7 @@
 -- `put_data` puts one word behind the other. Assumes nothing.
-use Rattle.std.proofs.Common.{refl, ◌+◌, ◌*◌, rules, arith}
+use Rattle.std.proofs.Common.{refl, ◌+◌, ◌*◌, rules}
 use Rattle.frames.specs.Numbers.{eight_is}
-use Rattle.frames.specs.Lines.{fillings, filling_on, filling_end}
+use Rattle.frames.specs.Lines.{filling_on, filling_end}
 use Rattle.frames.proofs.line.put_data.Goals as goal
 
 pub loop-i-preserved : goal.loop-i-preserved

@@ -4,7 +4,7 @@ use Rattle.survey.specs.Walking.{Touring}
 use Rattle.survey.proofs.walk.walk_page.Given as goal
 
 abbrev pub invariant-loop-words : goal.invariant-loop-words
-invariant-loop-words l = Touring l.page l.base l.handle l.initial.map l.initial.walk.found l.initial.walk.seen l.walk l.map
+invariant-loop-words l = Touring l.page l.base l.handle l.initial.seen l.initial.walk.found l.walk l.seen
 
 abbrev pub decreases-loop-words : goal.decreases-loop-words
 decreases-loop-words l = length l.page - l.walk.stop

@@ -1,7 +1,0 @@
--- `four_digits` writes two and two digits, one behind the other. Assumes nothing.
-use Rattle.std.proofs.Common.{rules}
-use Rattle.frames.specs.Saying.{digit_texts}
-use Rattle.frames.proofs.saying.four_digits.Goals as goal
-
-pub returns : goal.returns
-returns c = search (rules, digit_texts)

@@ -1,9 +1,0 @@
--- `data` keeps the length of the run, and its loop ends. Assumes nothing.
-use Rattle.std.proofs.Common.{length, ◌-◌, ◌≡◌}
-use Rattle.readings.proofs.image.data.Given as goal
-
-abbrev pub invariant-loop : goal.invariant-loop
-invariant-loop l = length l.run ≡ length l.initial.run
-
-abbrev pub decreases-loop : goal.decreases-loop
-decreases-loop l = l.words - l.counter

@@ -1,9 +1,0 @@
--- `spread` keeps the length of the run, and its loop ends. Assumes nothing.
-use Rattle.std.proofs.Common.{length, ◌-◌, ◌≡◌}
-use Rattle.storings.proofs.words.spread.Given as goal
-
-abbrev pub invariant-loop : goal.invariant-loop
-invariant-loop l = length l.run ≡ length l.initial.run
-
-abbrev pub decreases-loop : goal.decreases-loop
-decreases-loop l = l.count - l.counter
