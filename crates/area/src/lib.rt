@@ -1,8 +1,8 @@
-//! An area, read only: its geometry, its pages and R, and what each of them is. Promises are the
-//! definitions of `rules`.
+//! An area: its geometry, its pages and R, and what each of them is. Promises are the definitions of
+//! `rules`. `Held` is an area that is lent for storing, and alone calls the stores of `flash` here.
 //!
 //! Every function here is proved. Those that look into a page ask for a right geometry, which is what
-//! `wrong_geometry` tests of any area; the others take anything.
+//! `wrong_geometry` tests of any area, and so does what makes a `Held`; the others take anything.
 #![tactic(auto)]
 
 ghost use Rattle.std.specs.Prelude.{◌≡◌, ◌≤◌, ◌<◌, length};
@@ -11,6 +11,9 @@ ghost use Rattle.rules.specs.Areas.{page, kind, recovery, is_free, is_damage, na
 ghost use Rattle.rules.specs.Refusals.{wrong_geometry};
 ghost use Rattle.rules.specs.Places.{Right};
 
+mod held;
+
+pub use held::Held;
 use rules::{Area, Kind, PageSize, Recovery};
 
 // Whether no such area fits the run: the number of pages, the page size or the run's length is wrong.

@@ -186,8 +186,6 @@ length_in_part f e at w l = omega (arith, ap length w, length-take e f)
 pub kept_of_entry : {k m : ℕ} (w n : ℕ) → m ≡ counted k n → k ≡ handle_of w → m ≡ counted (handle_of w) n
 kept_of_entry w n u o = u ∙ ap (λ (h : ℕ). counted h n) o
 
-pub ruleset copies = (copying_start, copying_on, copying_end, fewer, entry_in, from_in, to_in, copy_apart, length_of_part, length_in_part, kept_of_entry, right_ran, ran_length)
-
 -- ---- a page's live entries in R
 pub live_count : {x : List ℕ} {m : ℕ} (a : Area) (f : List ℕ) (i : ℕ) → x ≡ page a f i → m ≡ live_words (placed 2 (items x)) → m ≡ length (live_codes a f i)
 unfolding live_codes
@@ -233,8 +231,6 @@ restored {f = f} a i n x y z =
     let ws = take n (drop 2 (page a f (R a))) in
     rw (append_assoc (puts (base a i + 2) ws) (metadata a i i) (erase a (R a) ∷ [])) (ran_append x (ran_append y z))
 
-pub ruleset restores = (ran_copied_back, r_from, page_to, r_apart, restored, right_ran, ran_length)
-
 -- ---- a compaction
 module _ {f : List ℕ} {m : ℕ} (a : Area) (i : ℕ) (w : Words f) (r : Right a f) (e : ready a f ≡ true) (h : i < a.pages) (c : m ≡ length (live_codes a f i)) where
   held : (length (live_codes a f i) + 3 ≤ a.words)
@@ -250,5 +246,3 @@ module _ {f : List ℕ} {m : ℕ} (a : Area) (i : ℕ) (w : Words f) (r : Right 
       let ws = live_codes a f i in
       let z : Ran (restore a i (take (length ws + 1) (drop 2 (page a g (R a))))) q g s k = rw c at y in
       rw held.1 at (ran_then (λ l. copy_to a (R a) i (ws ++ seal ∷ [])) (λ l. restore a i (take (length ws + 1) (drop 2 (page a l (R a))))) x z)
-
-pub ruleset compactions = (compacted, live_fits, right_ran, ran_length)

@@ -1,20 +1,21 @@
 //! The compaction of a page: its live entries to R, word by word from where they lie, and back.
 //! Promises are the lists of `rules`, run under power.
 //!
-//! Every function here is proved. Each asks for a right geometry; a compaction asks for a ready area,
-//! in which R is blank and takes the words as they are.
+//! Every function here is proved. A compaction asks for a ready area, in which R is blank and takes the
+//! words as they are.
 #![tactic(auto)]
 
 ghost use Rattle.std.specs.Prelude.{true, [], ◌∷◌, ◌++◌, ◌≡◌, ◌≢◌, ◌+◌, ◌-◌, ◌≤◌, ◌<◌, length, get_or, take, drop, IfSome, IfNone};
-ghost use Rattle.flash.specs.Stores.{puts, Ran};
+ghost use Rattle.flash.specs.Stores.{puts};
 ghost use Rattle.rules.specs.Words.{handle_of, seal};
 ghost use Rattle.rules.specs.Areas.{R, base, page, ready};
 ghost use Rattle.rules.specs.Lists.{live_codes, copy_to, restore, compact};
 ghost use Rattle.rules.specs.Places.{Right};
+ghost use Rattle.area.specs.Holding.{Runs};
 ghost use Rattle.pages.specs.Steps.{length_at, counted};
 ghost use Rattle.compaction.specs.Copying.{copied_back};
 
-use flash::Power;
+use area::Held;
 use rules::{Area, SEAL};
 
 // The length of the entry that begins at a place of the run, within its page's end, if one does.
@@ -35,21 +36,20 @@ fn kept(flash: &[u32], at: usize, words: usize) -> usize
 }
 
 // The live entries of a page, in order, to R from word 2.
-fn copy_live(flash: &mut [u32], area: Area, index: usize, power: Power) -> Power
-    requires { Right area flash.old × (index < area.pages) }
-    ensures { Ran (puts (base area (R area) + 2) (live_codes area flash.old index)) power flash.old result flash.new }
+fn copy_live(held: &mut Held, index: usize)
+    requires { index < held.old.area.pages }
+    ensures { Runs (puts (base held.old.area (R held.old.area) + 2) (live_codes held.old.area held.old.run.now index)) held.old held.new }
 {
+    let area = held.area;
     let start = stores::base(area, index);
     let mut at = start + 2;
     let mut to = stores::base(area, area.pages) + 2;
-    let mut p = power;
-    while let Some(length) = length_within(flash, start + area.words, at) {
-        let count = kept(flash, at, length);
-        p = stores::copy_words(flash, at, to, count, p);
+    while let Some(length) = length_within(held.words(), start + area.words, at) {
+        let count = kept(held.words(), at, length);
+        held.power = stores::copy_words(held.run, at, to, count, held.power);
         to += count;
         at += length;
     }
-    p
 }
 
 // The number of words of a page's live entries.
@@ -61,43 +61,43 @@ fn live_length(flash: &[u32], area: Area, index: usize) -> usize
 }
 
 // A page's live entries, so many words in all, to R; then the seal behind them, and the metadata.
-fn fill_r(flash: &mut [u32], area: Area, index: usize, live: usize, power: Power) -> Power
-    requires { Right area flash.old × (index < area.pages) × (live ≡ length (live_codes area flash.old index)) × (live ≤ area.words) }
-    ensures { Ran (copy_to area (R area) index (live_codes area flash.old index ++ seal ∷ [])) power flash.old result flash.new }
+fn fill_r(held: &mut Held, index: usize, live: usize)
+    requires { (index < held.old.area.pages) × (live ≡ length (live_codes held.old.area held.old.run.now index)) × (live ≤ held.old.area.words) }
+    ensures { Runs (copy_to held.old.area (R held.old.area) index (live_codes held.old.area held.old.run.now index ++ seal ∷ [])) held.old held.new }
 {
-    let at = stores::base(area, area.pages) + 2 + live;
-    let a = copy_live(flash, area, index, power);
-    let b = flash::store(flash, at, SEAL, a);
-    stores::put_metadata(flash, area, area.pages, index, b)
+    let at = stores::base(held.area, held.area.pages) + 2 + live;
+    copy_live(held, index);
+    held.store(at, SEAL);
+    stores::put_metadata(held, held.area.pages, index);
 }
 
 // A page erased, and so many of R's words from word 2 copied to it.
-fn copy_back(flash: &mut [u32], area: Area, index: usize, count: usize, power: Power) -> Power
-    requires { Right area flash.old × (index < area.pages) × (count + 2 ≤ area.words) }
-    ensures { Ran (copied_back area index count flash.old) power flash.old result flash.new }
+fn copy_back(held: &mut Held, index: usize, count: usize)
+    requires { (index < held.old.area.pages) × (count + 2 ≤ held.old.area.words) }
+    ensures { Runs (copied_back held.old.area index count held.old.run.now) held.old held.new }
 {
-    let from = stores::base(area, area.pages) + 2;
-    let to = stores::base(area, index) + 2;
-    let p = stores::erase_page(flash, area, index, power);
-    stores::copy_words(flash, from, to, count, p)
+    let from = stores::base(held.area, held.area.pages) + 2;
+    let to = stores::base(held.area, index) + 2;
+    stores::erase_page(held, index);
+    held.power = stores::copy_words(held.run, from, to, count, held.power);
 }
 
 // A page made anew of so many of R's words from word 2, and R freed.
-pub fn restore(flash: &mut [u32], area: Area, index: usize, count: usize, power: Power) -> Power
-    requires { Right area flash.old × (index < area.pages) × (count + 2 ≤ area.words) }
-    ensures { Ran (restore area index (take count (drop 2 (page area flash.old (R area))))) power flash.old result flash.new }
+pub fn restore(held: &mut Held, index: usize, count: usize)
+    requires { (index < held.old.area.pages) × (count + 2 ≤ held.old.area.words) }
+    ensures { Runs (restore held.old.area index (take count (drop 2 (page held.old.area held.old.run.now (R held.old.area))))) held.old held.new }
 {
-    let a = copy_back(flash, area, index, count, power);
-    let b = stores::put_metadata(flash, area, index, index, a);
-    stores::erase_page(flash, area, area.pages, b)
+    copy_back(held, index, count);
+    stores::put_metadata(held, index, index);
+    stores::erase_page(held, held.area.pages);
 }
 
 // The stores of a compaction of a page.
-pub fn compact(flash: &mut [u32], area: Area, index: usize, power: Power) -> Power
-    requires { Right area flash.old × (index < area.pages) × (ready area flash.old ≡ true) }
-    ensures { Ran (compact area index flash.old) power flash.old result flash.new }
+pub fn compact(held: &mut Held, index: usize)
+    requires { (index < held.old.area.pages) × (ready held.old.area held.old.run.now ≡ true) }
+    ensures { Runs (compact held.old.area index held.old.run.now) held.old held.new }
 {
-    let live = live_length(flash, area, index);
-    let p = fill_r(flash, area, index, live, power);
-    restore(flash, area, index, live + 1, p)
+    let live = live_length(held.words(), held.area, index);
+    fill_r(held, index, live);
+    restore(held, index, live + 1);
 }

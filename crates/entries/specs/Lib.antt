@@ -5,3 +5,4 @@ pub mod Noting
 pub mod Repeats
 pub mod Sweeping
 pub mod Doubles
+pub mod Held

@@ -4,17 +4,16 @@
 // of `rules`, and those of `Noting`, which say what the map and what is kept beside it become.
 //
 // Every function here is proved. Of the public ones `new` asks for nothing, `note` for a handle of 16
-// bits, the others for a right geometry, and `confirmed` and `drop_in` besides for the windows that
-// noting all live handles gives. `drop_in` and `drop_doubles` alone store; the others change no word
-// of the flash.
+// bits, `confirmed` for a right geometry, and `confirmed` and `drop_in` for the windows that noting all
+// live handles gives. `drop_in` and `drop_doubles` alone store; the others change no word of the flash.
 ghost use Rattle.std.specs.Prelude.{true, false, ◌&&◌, ◌≡◌, ◌/◌, ◌^◌, ◌<◌, IfSome};
 ghost use Rattle.std.specs.Option.{ForSome, is_some};
 ghost use Rattle.std.specs.Int.Bits.{bit_or};
-ghost use Rattle.flash.specs.Stores.{Ran};
 ghost use Rattle.rules.specs.Words.{is_live};
 ghost use Rattle.rules.specs.Areas.{entries, twice};
 ghost use Rattle.rules.specs.Lists.{drop_doubles};
 ghost use Rattle.rules.specs.Places.{Right};
+ghost use Rattle.area.specs.Holding.{Runs};
 ghost use Rattle.entries.specs.Noting.{has, marked, kept, noted, unseen, all_noted, any_handle, beside, blank_map, nothing};
 ghost use Rattle.entries.specs.Ahead.{ahead, Sound};
 ghost use Rattle.entries.specs.Doubles.{drops, put_if};
@@ -22,7 +21,7 @@ ghost use Rattle.entries.specs.Repeats.{twice_in, both};
 ghost use Rattle.entries.specs.Sweeping.{Windowed};
 
 use crate::walk::{Cursor, Entries, Header};
-use flash::Power;
+use area::Held;
 use rules::Area;
 
 // What was seen of handles: a map of those noted, the highest of them, and the windows of 1,024
@@ -198,60 +197,49 @@ fn is_behind(flash: &[u32], area: Area, start: Cursor, handle: u32, only: Option
 
 // Stores to its bare length the header of an entry, if its handle is live from the cursor behind it
 // on. It may be known that one handle alone is live twice.
-#[tactic(auto, using(crate::specs::Doubles::drops_each))]
-fn drop_doubled(
-    flash: &mut [u32],
-    area: Area,
-    entry: Header,
-    behind: Cursor,
-    only: Option<u32>,
-    power: Power,
-) -> Power
-    requires { Right area flash.old × Sound area flash.old behind × (entry.length < 65536) }
-    ensures { Ran (put_if (drops only entry.handle (ahead area flash.old behind)) entry.place entry.length) power flash.old result flash.new }
+fn drop_doubled(held: &mut Held, entry: Header, behind: Cursor, only: Option<u32>)
+    requires { Sound held.old.area held.old.run.now behind × (entry.length < 65536) }
+    ensures { Runs (put_if (drops only entry.handle (ahead held.old.area held.old.run.now behind)) entry.place entry.length) held.old held.new }
 {
-    if is_behind(flash, area, behind, entry.handle, only) {
-        return flash::store(flash, entry.place, entry.length as u32, power);
+    if is_behind(held.words(), held.area, behind, entry.handle, only) {
+        held.store(entry.place, entry.length as u32);
     }
-    power
 }
 
 // Stores to its bare length the header of each entry whose handle is live behind it, in area order,
 // so that of the live entries of a handle the last one stays. It may be known that one handle alone
 // is live twice.
-#[tactic(auto, using(crate::specs::Doubles::drops_each))]
-fn drop_each(flash: &mut [u32], area: Area, only: Option<u32>, power: Power) -> Power
-    requires { Right area flash.old × ForSome only (λ k. twice_in (beside k) (entries area flash.old) ≡ false) }
-    ensures { Ran (drop_doubles area flash.old) power flash.old result flash.new }
+#[tactic(auto, using(crate::specs::Held::held_drops))]
+fn drop_each(held: &mut Held, only: Option<u32>)
+    requires { ForSome only (λ k. twice_in (beside k) (entries held.old.area held.old.run.now) ≡ false) }
+    ensures { Runs (drop_doubles held.old.area held.old.run.now) held.old held.new }
 {
-    let mut p = power;
-    let mut cursor = Cursor::first(area);
-    while let Some(entry) = cursor.next(flash, area) {
-        p = drop_doubled(flash, area, entry, cursor, only, p);
+    let mut cursor = Cursor::first(held.area);
+    while let Some(entry) = cursor.next(held.words(), held.area) {
+        drop_doubled(held, entry, cursor, only);
     }
-    p
 }
 
 // The same, by the windows in which a handle may be live twice. A second handle is looked for from
 // the window of the first on.
-#[tactic(auto, using(crate::specs::Doubles::dropped))]
-pub fn drop_in(flash: &mut [u32], area: Area, windows: u64, power: Power) -> Power
-    requires { Right area flash.old × (windows ≡ (all_noted any_handle blank_map nothing (entries area flash.old)).windows) }
-    ensures { Ran (drop_doubles area flash.old) power flash.old result flash.new }
+pub fn drop_in(held: &mut Held, windows: u64)
+    requires { windows ≡ (all_noted any_handle blank_map nothing (entries held.old.area held.old.run.now)).windows }
+    ensures { Runs (drop_doubles held.old.area held.old.run.now) held.old held.new }
 {
+    let flash = held.words();
+    let area = held.area;
     let Some(one) = doubled(flash, area, windows, 0, 0) else {
-        return power;
+        return;
     };
     let other = doubled(flash, area, windows, one / 1024, one);
     let only = if other.is_none() { Some(one) } else { None };
-    drop_each(flash, area, only, power)
+    drop_each(held, only);
 }
 
 // The same, of any area.
-pub fn drop_doubles(flash: &mut [u32], area: Area, power: Power) -> Power
-    requires { Right area flash.old }
-    ensures { Ran (drop_doubles area flash.old) power flash.old result flash.new }
+pub fn drop_doubles(held: &mut Held)
+    ensures { Runs (drop_doubles held.old.area held.old.run.now) held.old held.new }
 {
-    let windows = suspects(flash, area);
-    drop_in(flash, area, windows, power)
+    let windows = suspects(held.words(), held.area);
+    drop_in(held, windows);
 }

@@ -213,6 +213,14 @@ pub words_made : (ss : List Store) {f : List ℕ} → Words f → Words (made ss
 words_made [] u = u
 words_made (s ∷ ss) u = words_made ss (words_apply s u)
 
+pub small_words : (f : List ℕ) → ((i : ℕ) → get_or f i 0 ≤ blank) → Words f
+small_words [] h = none
+small_words (w ∷ f) h = more (h 0) (small_words f (λ i. h (suc i)))
+
+pub ran_small : {ss : List Store} {p q : Power} {f g : List ℕ} → Ran ss p f q g → ((i : ℕ) → get_or f i 0 ≤ blank) → (i : ℕ) → get_or g i 0 ≤ blank
+unfolding made_first
+ran_small {ss} {p} {f = f} x h i = rw x.words (words_get (words_made (take p.left ss) (small_words f h)) i)
+
 -- ---- and the flash's length
 length_apply : (s : Store) (f : List ℕ) → length (apply s f) ≡ length f
 unfolding stored wiped

@@ -11,7 +11,7 @@ ghost use Rattle.flash.specs.Stores.{put, wipe, wiped, spent, Ran};
 pub const BLANK: u32 = 0xFFFF_FFFF;
 
 // The stores that power is left for, and whether a store has been asked for without. Once noted, a
-// cut stays noted.
+// cut stays noted. The two stand side by side, since no power left is not yet a cut.
 #[derive(Clone, Copy)]
 pub struct Power {
     pub left: u32,

@@ -1,17 +1,12 @@
 -- What a line does, from what its request answers: promise and laws. Assumes nothing.
-use Rattle.std.specs.Prelude.{◌≡◌, refl, List, Bool, true, false, ℕ, length, take, Ok, Err, Option, Some, None, cond, leb}
+use Rattle.std.specs.Prelude.{◌≡◌, refl, List, ℕ, length, take, Ok, Err, Option, Some, None, cond, leb}
 use Rattle.std.proofs.Common.{sym, ap, ◌∙◌, length-take-le, ne_eqb}
 use Rattle.std.proofs.Math.Path.{subst}
-use Rattle.std.proofs.lemmas.Bool.{not-true, not-false}
 use Rattle.rules.specs.declared.Found.{Found}
-use Rattle.std.proofs.lemmas.Option.{none-some}
 use Rattle.rules.specs.declared.Refusal.{Refusal}
-use Rattle.rules.specs.declared.Refusal.TheVariants.{Geometry}
 use Rattle.rules.specs.declared.PageSize.{PageSize}
-use Rattle.rules.specs.declared.PageSize.TheVariants.{Small, Medium, Large}
 use Rattle.rules.specs.Refusals.{refusal_number, answer_number, answer_stores, Answer, Reading, Yielded}
-use Rattle.rules.specs.Lists.{Request, format, recover, write, delete}
-use Rattle.rules.specs.Search.{read_of, search_of}
+use Rattle.rules.specs.Lists.{recover, write, delete}
 use Rattle.frames.specs.declared.Shape.{Shape}
 use Rattle.frames.specs.declared.State.{State}
 use Rattle.frames.specs.declared.Tail.{Tail}

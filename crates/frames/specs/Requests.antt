@@ -5,9 +5,8 @@ use Rattle.std.proofs.Common.{◌∙◌, length-take-le}
 use mathlib.Core.List.{List, ◌++◌}
 use Rattle.std.proofs.Math.ListN.{drop}
 use Rattle.rules.specs.declared.Area.{Area}
-use Rattle.rules.specs.Refusals.{outcome, Answer, Reading, Yielded}
+use Rattle.rules.specs.Refusals.{outcome, Answer}
 use Rattle.rules.specs.Lists.{Request, plan_of, format, recover, write, delete}
-use Rattle.rules.specs.Search.{read_of, search_of}
 use Rattle.manager.specs.Storing.{Answers}
 use Rattle.frames.specs.declared.Shape.{Shape}
 use Rattle.frames.specs.declared.requests.Request.{Request as Asked}

@@ -13,7 +13,8 @@ use entries::walk::Entries;
 use rules::Area;
 
 // A pen over a lent buffer: so many bytes of the text are still to be passed over, so many bytes of
-// the buffer are written, and whether a byte has been left out at the buffer's end.
+// the buffer are written, and whether a byte has been left out at the buffer's end, which may come
+// after any count of them.
 #[derive(Drop)]
 struct Pen<'a> {
     out: &'a mut [u8],

@@ -3,3 +3,4 @@ pub mod Comparing
 pub mod Holding
 pub mod Storing
 pub mod Safety
+pub mod Held

@@ -18,6 +18,7 @@ ghost use Rattle.manager.specs.Reading.{Reads};
 ghost use Rattle.manager.specs.Holding.{last_word, has_words};
 ghost use Rattle.manager.specs.Storing.{Answers, full, Rest};
 
+use area::Held;
 use flash::Power;
 use rules::{Answer, Area, Found, Made, Reading, Refusal, SPECIAL};
 use survey::View;
@@ -72,8 +73,9 @@ pub fn format(flash: &mut [u32], area: Area, power: u32) -> Answer
     if area::wrong_geometry(flash, area) {
         return Err(Refusal::Geometry);
     }
-    let rest = stores::format(flash, area, full(power));
-    answer(power, rest)
+    let mut held = Held::new(flash, area, full(power));
+    stores::format(&mut held);
+    answer(power, held.power)
 }
 
 // Makes an undamaged area ready, from wherever the power was cut; one that is ready takes no store.
@@ -85,12 +87,14 @@ pub fn recover(flash: &mut [u32], area: Area, power: u32) -> Answer
     let looked = survey::look(flash, area, 0, 0)?;
     match looked {
         None => {
-            let rest = recovery::recover(flash, area, full(power));
-            answer(power, rest)
+            let mut held = Held::new(flash, area, full(power));
+            recovery::recover(&mut held);
+            answer(power, held.power)
         }
         Some(sight) => {
-            let rest = entries::doubles::drop_in(flash, area, sight.windows, full(power));
-            answer(power, rest)
+            let mut held = Held::new(flash, area, full(power));
+            entries::doubles::drop_in(&mut held, sight.windows);
+            answer(power, held.power)
         }
     }
 }
@@ -159,8 +163,9 @@ fn write_entry(
     if survey::is_full(area, view.live, data.len() + 1) {
         return Err(Refusal::NoRoom);
     }
-    let rest = writing::write(flash, area, view, handle, data, full(power));
-    answer(power, rest)
+    let mut held = Held::new(flash, area, full(power));
+    writing::write(&mut held, view, handle, data);
+    answer(power, held.power)
 }
 
 // Gives a handle its data, in place of what it had. Refused are a wrong geometry, a damaged or

@@ -55,5 +55,3 @@ pub ruleset finishes = (some_words, few_words, page_finished, finish_free, finis
 pub all_recovered : {p q r s : Power} {f g h k : List ℕ} (a : Area) → Ran (finish a f) p f q g → Ran (each (mend a) a.pages 0 g) q g r h → Ran (drop_doubles a h) r h s k
     → Ran (recover_list a f) p f s k
 all_recovered a x y z = ran_then (finish a) (each (mend a) a.pages 0 then drop_doubles a) x (ran_then (each (mend a) a.pages 0) (drop_doubles a) y z)
-
-pub ruleset recovers = (all_recovered, right_ran, ran_length)

@@ -1,3 +1,4 @@
 pub mod Mending
 pub mod Finishing
 pub mod Last
+pub mod Held

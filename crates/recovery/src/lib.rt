@@ -1,43 +1,43 @@
 //! Recovery of an area, step by step, each reading the flash as the step before left it: R finished,
 //! torn pages mended, doubles dropped. Promises are the lists of `rules`, run under power.
 //!
-//! Every function here is proved. Each public one asks for a right geometry.
+//! Every function here is proved, and none that is public has a `requires`.
 #![tactic(auto)]
 
 ghost use Rattle.std.specs.Prelude.{◌≡◌, ◌≤◌, ◌<◌, length};
-ghost use Rattle.flash.specs.Stores.{each, Ran};
+ghost use Rattle.flash.specs.Stores.{each};
 ghost use Rattle.rules.specs.declared.Kind.TheVariants.{Torn};
 ghost use Rattle.rules.specs.declared.Recovery.TheVariants.{Committed};
 ghost use Rattle.rules.specs.Lists.{finish_as, finish, last_of, mend_as, mend, recover_list};
-ghost use Rattle.rules.specs.Places.{Right};
+ghost use Rattle.area.specs.Holding.{Runs};
 ghost use Rattle.pages.specs.Steps.{entries_at};
 ghost use Rattle.entries.specs.Ahead.{found_of};
 ghost use Rattle.stores.specs.Making.{data_words};
 ghost use Rattle.recovery.specs.Mending.{if_live};
 
-use flash::Power;
-use rules::{Area, Found, Kind, Recovery, SEAL};
+use area::Held;
+use rules::{Found, Kind, Recovery, SEAL};
 
 // The page that a committed R names made anew of R's words, up to and with the seal, and R freed.
-fn finish_page(flash: &mut [u32], area: Area, index: usize, power: Power) -> Power
-    requires { Right area flash.old × (index < area.pages) }
-    ensures { Ran (finish_as (Committed index) area flash.old) power flash.old result flash.new }
+fn finish_page(held: &mut Held, index: usize)
+    requires { index < held.old.area.pages }
+    ensures { Runs (finish_as (Committed index) held.old.area held.old.run.now) held.old held.new }
 {
-    let stop = pages::stop(area::page_part(flash, area, area.pages));
-    compaction::restore(flash, area, index, stop - 1, power)
+    let area = held.area;
+    let stop = pages::stop(area::page_part(held.words(), area, area.pages));
+    compaction::restore(held, index, stop - 1);
 }
 
 // A compaction that was cut is finished if R is committed, and undone if R is unfinished: then R is
 // erased.
-fn finish(flash: &mut [u32], area: Area, power: Power) -> Power
-    requires { Right area flash.old }
-    ensures { Ran (finish area flash.old) power flash.old result flash.new }
+fn finish(held: &mut Held)
+    ensures { Runs (finish held.old.area held.old.run.now) held.old held.new }
 {
-    match area::recovery_kind(flash, area) {
-        Recovery::Free => power,
-        Recovery::Unfinished => stores::erase_page(flash, area, area.pages, power),
-        Recovery::Committed(index) => finish_page(flash, area, index, power),
-        Recovery::Damage => power,
+    match area::recovery_kind(held.words(), held.area) {
+        Recovery::Free => {}
+        Recovery::Unfinished => stores::erase_page(held, held.area.pages),
+        Recovery::Committed(index) => finish_page(held, index),
+        Recovery::Damage => {}
     }
 }
 
@@ -65,47 +65,45 @@ fn last_live(part: &[u32], start: usize) -> Option<Found>
 
 // A torn page made a sealed one: its last entry bare, if that is live, and the seal behind its
 // entries.
-fn mend_torn(flash: &mut [u32], area: Area, index: usize, power: Power) -> Power
-    requires { Right area flash.old × (index < area.pages) }
-    ensures { Ran (mend_as Torn area index flash.old) power flash.old result flash.new }
+fn mend_torn(held: &mut Held, index: usize)
+    requires { index < held.old.area.pages }
+    ensures { Runs (mend_as Torn held.old.area index held.old.run.now) held.old held.new }
 {
+    let flash = held.words();
+    let area = held.area;
     let base = stores::base(area, index);
     let last = last_live(entries::up_to(flash, base + area.words), base + 2);
     let stop = pages::stop(area::page_part(flash, area, index));
-    let p = stores::bare_found(flash, last, power);
-    flash::store(flash, base + stop, SEAL, p)
+    held.power = stores::bare_found(held.run, last, held.power);
+    held.store(base + stop, SEAL);
 }
 
 // A page mended, if it is torn.
-fn mend(flash: &mut [u32], area: Area, index: usize, power: Power) -> Power
-    requires { Right area flash.old × (index < area.pages) }
-    ensures { Ran (mend area index flash.old) power flash.old result flash.new }
+fn mend(held: &mut Held, index: usize)
+    requires { index < held.old.area.pages }
+    ensures { Runs (mend held.old.area index held.old.run.now) held.old held.new }
 {
-    match area::page_kind(flash, area, index) {
-        Kind::Sealed => power,
-        Kind::Torn => mend_torn(flash, area, index, power),
-        Kind::Neither => power,
+    match area::page_kind(held.words(), held.area, index) {
+        Kind::Sealed => {}
+        Kind::Torn => mend_torn(held, index),
+        Kind::Neither => {}
     }
 }
 
 // All pages mended that are torn.
-fn mend_pages(flash: &mut [u32], area: Area, power: Power) -> Power
-    requires { Right area flash.old }
-    ensures { Ran (each (mend area) area.pages 0 flash.old) power flash.old result flash.new }
+fn mend_pages(held: &mut Held)
+    ensures { Runs (each (mend held.old.area) held.old.area.pages 0 held.old.run.now) held.old held.new }
 {
-    let mut p = power;
-    for index in 0..area.pages {
-        p = mend(flash, area, index, p);
+    for index in 0..held.area.pages {
+        mend(held, index);
     }
-    p
 }
 
 // The stores of a recovery.
-pub fn recover(flash: &mut [u32], area: Area, power: Power) -> Power
-    requires { Right area flash.old }
-    ensures { Ran (recover_list area flash.old) power flash.old result flash.new }
+pub fn recover(held: &mut Held)
+    ensures { Runs (recover_list held.old.area held.old.run.now) held.old held.new }
 {
-    let a = finish(flash, area, power);
-    let b = mend_pages(flash, area, a);
-    entries::doubles::drop_doubles(flash, area, b)
+    finish(held);
+    mend_pages(held);
+    entries::doubles::drop_doubles(held);
 }

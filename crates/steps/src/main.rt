@@ -12,7 +12,8 @@ use rules::{Area, Yielded};
 use searching::object::Search;
 use std::fmt;
 
-// What three steps of a search yield, and the place that it has reached behind them.
+// What three steps of a search yield, and the place that it has reached behind them: a field each, as
+// `three_of` has them.
 #[derive(Clone, Copy)]
 struct Steps {
     first: Yielded,

@@ -2,8 +2,8 @@
 //! page's metadata, a header to its bare length; and the list of a format. Promises are the lists of
 //! `rules`, run under power.
 //!
-//! Every function here is proved. Each asks that its places can be counted; those of a format and of
-//! metadata ask for a right geometry.
+//! Every function here is proved. Each asks that its places can be counted; those of a page take an
+//! area that is held, the others any run.
 #![tactic(auto)]
 
 ghost use Rattle.std.specs.Prelude.{[], ◌∷◌, ◌⊎◌, ◌≡◌, ◌+◌, ◌≤◌, ◌<◌, length, take, drop};
@@ -11,9 +11,10 @@ ghost use Rattle.flash.specs.Stores.{put, puts, each, Ran};
 ghost use Rattle.rules.specs.Words.{meta1};
 ghost use Rattle.rules.specs.Areas.{base};
 ghost use Rattle.rules.specs.Lists.{erase, format_page, format_list};
-ghost use Rattle.rules.specs.Places.{Right};
+ghost use Rattle.area.specs.Holding.{Runs};
 ghost use Rattle.stores.specs.Making.{data_words, bare_found, metadata};
 
+use area::Held;
 use flash::Power;
 use rules::{Area, Found, META0, SEAL};
 
@@ -79,51 +80,47 @@ pub fn copy_words(flash: &mut [u32], from: usize, to: usize, count: usize, power
 }
 
 // Words 0 and 1 of a page as for the page with an index.
-pub fn put_metadata(flash: &mut [u32], area: Area, page: usize, index: usize, power: Power) -> Power
-    requires { Right area flash.old × (page ≤ area.pages) × (index < area.pages) }
-    ensures { Ran (metadata area page index) power flash.old result flash.new }
+pub fn put_metadata(held: &mut Held, page: usize, index: usize)
+    requires { (page ≤ held.old.area.pages) × (index < held.old.area.pages) }
+    ensures { Runs (metadata held.old.area page index) held.old held.new }
 {
-    let at = base(area, page);
-    let a = flash::store(flash, at, META0, power);
-    flash::store(flash, at + 1, meta1(area.pages, index), a)
+    let at = base(held.area, page);
+    held.store(at, META0);
+    held.store(at + 1, meta1(held.area.pages, index));
 }
 
 // A page erased.
-pub fn erase_page(flash: &mut [u32], area: Area, index: usize, power: Power) -> Power
-    requires { Right area flash.old × (index ≤ area.pages) }
-    ensures { Ran (erase area index ∷ []) power flash.old result flash.new }
+pub fn erase_page(held: &mut Held, index: usize)
+    requires { index ≤ held.old.area.pages }
+    ensures { Runs (erase held.old.area index ∷ []) held.old held.new }
 {
-    let at = base(area, index);
-    flash::erase(flash, at, area.words, power)
+    let at = base(held.area, index);
+    held.erase(at, held.area.words);
 }
 
 // A page made empty.
-fn format_page(flash: &mut [u32], area: Area, index: usize, power: Power) -> Power
-    requires { Right area flash.old × (index < area.pages) }
-    ensures { Ran (format_page area index flash.old) power flash.old result flash.new }
+fn format_page(held: &mut Held, index: usize)
+    requires { index < held.old.area.pages }
+    ensures { Runs (format_page held.old.area index held.old.run.now) held.old held.new }
 {
-    let a = erase_page(flash, area, index, power);
-    let b = put_metadata(flash, area, index, index, a);
-    flash::store(flash, base(area, index) + 2, SEAL, b)
+    erase_page(held, index);
+    put_metadata(held, index, index);
+    held.store(base(held.area, index) + 2, SEAL);
 }
 
 // All pages made empty.
-fn format_pages(flash: &mut [u32], area: Area, power: Power) -> Power
-    requires { Right area flash.old }
-    ensures { Ran (each (format_page area) area.pages 0 flash.old) power flash.old result flash.new }
+fn format_pages(held: &mut Held)
+    ensures { Runs (each (format_page held.old.area) held.old.area.pages 0 held.old.run.now) held.old held.new }
 {
-    let mut p = power;
-    for index in 0..area.pages {
-        p = format_page(flash, area, index, p);
+    for index in 0..held.area.pages {
+        format_page(held, index);
     }
-    p
 }
 
 // The stores of a format.
-pub fn format(flash: &mut [u32], area: Area, power: Power) -> Power
-    requires { Right area flash.old }
-    ensures { Ran (format_list area flash.old) power flash.old result flash.new }
+pub fn format(held: &mut Held)
+    ensures { Runs (format_list held.old.area held.old.run.now) held.old held.new }
 {
-    let p = erase_page(flash, area, area.pages, power);
-    format_pages(flash, area, p)
+    erase_page(held, held.area.pages);
+    format_pages(held);
 }

@@ -165,7 +165,8 @@ fn pass_page(
 }
 
 // Searches, page by page and on each from entry to entry, for the lowest page whose seal leaves the
-// room, and passes it and those before it on the way; all, if none leaves it.
+// room, and passes it and those before it on the way; all, if none leaves it. The rule book names the
+// nest: it is left by a label at the first page that fits.
 fn seek_room(flash: &[u32], area: Area, asked: Asked, seen: &mut Seen) -> Sought
     requires { Right area flash.now × Fitting area flash.now asked × (seen.old ≡ unseen) }
     ensures { RoomSought area flash.now asked seen.new result }

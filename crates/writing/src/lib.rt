@@ -15,12 +15,14 @@ ghost use Rattle.rules.specs.Walk.{entry_length, stop};
 ghost use Rattle.rules.specs.Areas.{page, page_entries, entries, find, ready};
 ghost use Rattle.rules.specs.Lists.{compact, room_page, append, append_to};
 ghost use Rattle.rules.specs.Places.{Right};
+ghost use Rattle.area.specs.Holding.{Runs};
 ghost use Rattle.pages.specs.Steps.{entries_at};
 ghost use Rattle.entries.specs.Ahead.{found_of};
 ghost use Rattle.survey.specs.Surveying.{view_of};
 ghost use Rattle.stores.specs.Making.{data_words};
 ghost use Rattle.writing.specs.Moving.{append_over};
 
+use area::Held;
 use flash::Power;
 use rules::{Area, Found, SEAL};
 use survey::View;
@@ -44,22 +46,13 @@ fn put_entry(flash: &mut [u32], at: usize, handle: u32, data: &[u32], power: Pow
 }
 
 // An entry behind those of a page, where its walk stops, and an old one to its bare length.
-fn append(
-    flash: &mut [u32],
-    area: Area,
-    index: usize,
-    end: usize,
-    old: Option<Found>,
-    handle: u32,
-    data: &[u32],
-    power: Power,
-) -> Power
-    requires { Right area flash.old × (index < area.pages) × (end ≡ stop (page area flash.old index)) × (data_words old ≤ 262144) × (handle < 65536) × (length «data».now ≤ 32) }
-    ensures { Ran (append_over area handle «data».now index old flash.old) power flash.old result flash.new }
+fn append(held: &mut Held, index: usize, end: usize, old: Option<Found>, handle: u32, data: &[u32])
+    requires { (index < held.old.area.pages) × (end ≡ stop (page held.old.area held.old.run.now index)) × (data_words old ≤ 262144) × (handle < 65536) × (length «data».now ≤ 32) }
+    ensures { Runs (append_over held.old.area handle «data».now index old held.old.run.now) held.old held.new }
 {
-    let at = stores::base(area, index) + end;
-    let p = put_entry(flash, at, handle, data, power);
-    stores::bare_found(flash, old, p)
+    let at = stores::base(held.area, index) + end;
+    held.power = put_entry(held.run, at, handle, data, held.power);
+    held.power = stores::bare_found(held.run, old, held.power);
 }
 
 // The first live entry of a handle from a place of a run on, which ends where the page does.
@@ -109,60 +102,47 @@ fn moved(
 // A page compacted, and an entry behind those that it keeps; last, the handle's old entry, found
 // before, to its bare length.
 fn compact_and_append(
-    flash: &mut [u32],
-    area: Area,
+    held: &mut Held,
     index: usize,
     before: Option<Found>,
     handle: u32,
     data: &[u32],
-    power: Power,
-) -> Power
-    requires { Right area flash.old × (ready area flash.old ≡ true) × (index < area.pages) × (before ≡ found_of (find handle (entries area flash.old))) × (handle < 65536) × (length «data».now ≤ 32) }
-    ensures { Ran ((compact area index then append area handle «data».now index) flash.old) power flash.old result flash.new }
+)
+    requires { (ready held.old.area held.old.run.now ≡ true) × (index < held.old.area.pages) × (before ≡ found_of (find handle (entries held.old.area held.old.run.now))) × (handle < 65536) × (length «data».now ≤ 32) }
+    ensures { Runs ((compact held.old.area index then append held.old.area handle «data».now index) held.old.run.now) held.old held.new }
 {
-    let p = compaction::compact(flash, area, index, power);
-    let stop = pages::stop(area::page_part(flash, area, index));
+    compaction::compact(held, index);
+    let flash = held.words();
+    let area = held.area;
+    let end = pages::stop(area::page_part(flash, area, index));
     let old = moved(flash, area, index, handle, before);
-    append(flash, area, index, stop, old, handle, data, p)
+    append(held, index, end, old, handle, data);
 }
 
 // An entry to the lowest page whose compaction makes room for it.
-fn append_compacted(
-    flash: &mut [u32],
-    area: Area,
-    view: View,
-    handle: u32,
-    data: &[u32],
-    power: Power,
-) -> Power
-    requires { Right area flash.old × (ready area flash.old ≡ true) × (view ≡ view_of area flash.old handle (entry_length «data».now)) × (handle < 65536) × (length «data».now ≤ 32) }
-    ensures { Ran (append_to area handle «data».now None flash.old) power flash.old result flash.new }
+fn append_compacted(held: &mut Held, view: View, handle: u32, data: &[u32])
+    requires { (ready held.old.area held.old.run.now ≡ true) × (view ≡ view_of held.old.area held.old.run.now handle (entry_length «data».now)) × (handle < 65536) × (length «data».now ≤ 32) }
+    ensures { Runs (append_to held.old.area handle «data».now None held.old.run.now) held.old held.new }
 {
     match view.compact {
-        None => power,
+        None => (),
         Some(page) => {
-            compact_and_append(flash, area, page.index, view.entry, handle, data, power)
+            let before = view.entry;
+            compact_and_append(held, page.index, before, handle, data);
         }
     }
 }
 
 // The stores of a write of data that the handle does not hold.
-pub fn write(
-    flash: &mut [u32],
-    area: Area,
-    view: View,
-    handle: u32,
-    data: &[u32],
-    power: Power,
-) -> Power
-    requires { Right area flash.old × (ready area flash.old ≡ true) × (view ≡ view_of area flash.old handle (entry_length «data».now)) × (handle < 65536) × (length «data».now ≤ 32) }
-    ensures { Ran (append_to area handle «data».now (room_page area flash.old (entry_length «data».now)) flash.old) power flash.old result flash.new }
+pub fn write(held: &mut Held, view: View, handle: u32, data: &[u32])
+    requires { (ready held.old.area held.old.run.now ≡ true) × (view ≡ view_of held.old.area held.old.run.now handle (entry_length «data».now)) × (handle < 65536) × (length «data».now ≤ 32) }
+    ensures { Runs (append_to held.old.area handle «data».now (room_page held.old.area held.old.run.now (entry_length «data».now)) held.old.run.now) held.old held.new }
 {
     match view.room {
-        None => append_compacted(flash, area, view, handle, data, power),
+        None => append_compacted(held, view, handle, data),
         Some(page) => {
             let old = view.entry;
-            append(flash, area, page.index, page.stop, old, handle, data, power)
+            append(held, page.index, page.stop, old, handle, data);
         }
     }
 }

@@ -1,9 +1,7 @@
 -- `mend_pages` goes from page to page. Assumes nothing.
-use Rattle.std.proofs.Common.{length, ◌≡◌}
-use Rattle.flash.specs.Laws.{Turn}
 use Rattle.rules.specs.Lists.{mend}
-use Rattle.rules.specs.Places.{Right}
+use Rattle.area.specs.Holding.{Going}
 use Rattle.recovery.proofs.mend_pages.Given as goal
 
 abbrev pub invariant-loop-index : goal.invariant-loop-index
-invariant-loop-index l = (length l.flash ≡ length l.initial.flash) × Right l.area l.flash × Turn (mend l.area) l.area.pages l.initial.p l.initial.flash l.index l.p l.flash
+invariant-loop-index l = Going (mend l.initial.held.area) l.initial.held.area.pages l.initial.held l.index l.held
