@@ -3,6 +3,7 @@
 ghost use Rattle.std.specs.Prelude.{ℕ, get_or, ◌≤◌};
 ghost use Rattle.rules.specs.Places.{Right};
 
+use crate::run::Run;
 use flash::Power;
 use rules::Area;
 
@@ -20,6 +21,7 @@ impl<'a> Held<'a> {
     ghost use Rattle.std.specs.Prelude.{[], ◌∷◌, ◌≡◌};
     ghost use Rattle.flash.specs.Stores.{put, wipe};
     ghost use Rattle.area.specs.Holding.{Runs};
+    ghost use Rattle.area.specs.Reading.{Shows};
 
     // An area, to be stored to with a power.
     pub fn new(run: &'a mut [u32], area: Area, power: Power) -> Held<'a>
@@ -35,6 +37,17 @@ impl<'a> Held<'a> {
         ensures { result.now ≡ self.now.run.now }
     {
         &*self.run
+    }
+
+    // The area, to be read.
+    #[tactic(auto, using(crate::specs::Reading::showing))]
+    pub fn as_run(&self) -> Run
+        ensures { Shows self.now.area self.now.run.now result }
+    {
+        Run {
+            words: self.words(),
+            area: self.area,
+        }
     }
 
     // Stores a word at a place, as `flash::store` does.

@@ -1,20 +1,22 @@
 //! An area: its geometry, its pages and R, and what each of them is. Promises are the definitions of
-//! `rules`. `Held` is an area that is lent for storing, and alone calls the stores of `flash` here.
+//! `rules`. `Run` is a run that is an area, to be read; `Held` is one that is lent for storing, and
+//! alone calls the stores of `flash` here.
 //!
-//! Every function here is proved. Those that look into a page ask for a right geometry, which is what
-//! `wrong_geometry` tests of any area, and so does what makes a `Held`; the others take anything.
+//! Every function here is proved. A `Run` and a `Held` have a right geometry, which `wrong_geometry`
+//! tests of any run; so what looks into a page asks for its index alone, and `Run::of` for nothing.
 #![tactic(auto)]
 
-ghost use Rattle.std.specs.Prelude.{◌≡◌, ◌≤◌, ◌<◌, length};
+ghost use Rattle.std.specs.Prelude.{◌≡◌};
 ghost use Rattle.rules.specs.Walk.{is_sealed, is_sound};
-ghost use Rattle.rules.specs.Areas.{page, kind, recovery, is_free, is_damage, names};
+ghost use Rattle.rules.specs.Areas.{is_free, is_damage, names};
 ghost use Rattle.rules.specs.Refusals.{wrong_geometry};
-ghost use Rattle.rules.specs.Places.{Right};
 
 mod held;
+mod run;
 
 pub use held::Held;
 use rules::{Area, Kind, PageSize, Recovery};
+pub use run::Run;
 
 // Whether no such area fits the run: the number of pages, the page size or the run's length is wrong.
 #[tactic(auto, using(crate::specs::Checks::geometries))]
@@ -28,37 +30,6 @@ pub fn wrong_geometry(flash: &[u32], area: Area) -> bool
         None => true,
         Some(size) => flash.len() != (area.pages + 1) * size.words(),
     }
-}
-
-// The words of a page; the page behind the last one is R.
-#[tactic(auto, using(crate::specs::Checks::parts))]
-pub fn page_part(flash: &[u32], area: Area, index: usize) -> &[u32]
-    requires { Right area flash.now × (index ≤ area.pages) }
-    ensures { (result.now ≡ page area flash.now index) × (length result.now ≡ area.words) }
-{
-    let base = index * area.words;
-    let end = base + area.words;
-    &flash[base..end]
-}
-
-// What a page is.
-pub fn page_kind(flash: &[u32], area: Area, index: usize) -> Kind
-    requires { Right area flash.now × (index < area.pages) }
-    ensures { result ≡ kind area flash.now index }
-{
-    pages::kind_of(
-        page_part(flash, area, index),
-        area.pages as u32,
-        index as u32,
-    )
-}
-
-// What R is.
-pub fn recovery_kind(flash: &[u32], area: Area) -> Recovery
-    requires { Right area flash.now }
-    ensures { result ≡ recovery area flash.now }
-{
-    pages::recovery_of(page_part(flash, area, area.pages), area.pages as u32)
 }
 
 // Whether a page is sealed.

@@ -9,7 +9,9 @@ use Rattle.rules.specs.Lists.{erase, live_codes, copy_to, restore, compact}
 use Rattle.rules.specs.Places.{Right}
 use Rattle.pages.specs.Steps.{length_at, counted}
 use Rattle.area.specs.declared.held.Held.{Held}
+use Rattle.area.specs.declared.run.Run.{Run}
 use Rattle.area.specs.Holding.{Runs, runs_over}
+use Rattle.area.specs.Reading.{Shows}
 use Rattle.stores.specs.Making.{metadata, page_ends}
 use Rattle.compaction.specs.Copying.{Copying, copying_start, copying_end, copying_on, fewer, entry_in, from_in, to_in, copy_apart, r_filled, copied_back, ran_copied_back, r_from, page_to, r_apart, restored, live_fits, compacted}
 
@@ -96,12 +98,12 @@ held_restored {x} {z = z} i n p q r =
 pub ruleset held_restores = (held_back, held_r_from, held_page_to, held_r_apart, held_restored)
 
 -- ---- a compaction
-module _ {g : List ℕ} {m : ℕ} (x : Held) (i : ℕ) (o : g ≡ x.run.now) (e : ready x.area x.run.now ≡ true) (h : i < x.area.pages) (c : m ≡ length (live_codes x.area g i)) where
+module _ {r : Run} {m : ℕ} (x : Held) (i : ℕ) (o : Shows x.area x.run.now r) (e : ready x.area x.run.now ≡ true) (h : i < x.area.pages) (c : m ≡ length (live_codes r.area r.words.now i)) where
   held_words : Words x.run.now
   held_words = small_words x.run.now x.sized
 
   held_live : m ≡ length (live_codes x.area x.run.now i)
-  held_live = rw o at c
+  held_live = rw (o.area, o.words) at c
 
   pub held_fits : {ss : List Store} {y : Held} → Runs ss x y → m + 1 + 2 ≤ y.area.words
   held_fits p = rw p.area (live_fits x.area i held_words x.right e h held_live)

@@ -10,13 +10,12 @@ ghost use Rattle.flash.specs.Stores.{puts};
 ghost use Rattle.rules.specs.Words.{handle_of, seal};
 ghost use Rattle.rules.specs.Areas.{R, base, page, ready};
 ghost use Rattle.rules.specs.Lists.{live_codes, copy_to, restore, compact};
-ghost use Rattle.rules.specs.Places.{Right};
 ghost use Rattle.area.specs.Holding.{Runs};
 ghost use Rattle.pages.specs.Steps.{length_at, counted};
 ghost use Rattle.compaction.specs.Copying.{copied_back};
 
-use area::Held;
-use rules::{Area, SEAL};
+use area::{Held, Run};
+use rules::SEAL;
 
 // The length of the entry that begins at a place of the run, within its page's end, if one does.
 fn length_within(flash: &[u32], end: usize, at: usize) -> Option<usize>
@@ -53,11 +52,11 @@ fn copy_live(held: &mut Held, index: usize)
 }
 
 // The number of words of a page's live entries.
-fn live_length(flash: &[u32], area: Area, index: usize) -> usize
-    requires { Right area flash.now × (index < area.pages) }
-    ensures { (result ≡ length (live_codes area flash.now index)) × (result ≤ area.words) }
+fn live_length(run: Run, index: usize) -> usize
+    requires { index < run.area.pages }
+    ensures { (result ≡ length (live_codes run.entry.area run.entry.words.now index)) × (result ≤ run.entry.area.words) }
 {
-    pages::live_words(area::page_part(flash, area, index))
+    pages::live_words(run.page(index))
 }
 
 // A page's live entries, so many words in all, to R; then the seal behind them, and the metadata.
@@ -97,7 +96,7 @@ pub fn compact(held: &mut Held, index: usize)
     requires { (index < held.old.area.pages) × (ready held.old.area held.old.run.now ≡ true) }
     ensures { Runs (compact held.old.area index held.old.run.now) held.old held.new }
 {
-    let live = live_length(held.words(), held.area, index);
+    let live = live_length(held.as_run(), index);
     fill_r(held, index, live);
     restore(held, index, live + 1);
 }

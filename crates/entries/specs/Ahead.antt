@@ -17,6 +17,7 @@ use Rattle.rules.specs.Areas.{base, Entry, placed, page_entries, entries_from, e
 use Rattle.rules.specs.Places.{Right, base_suc, base_zero, page_from, base_in}
 use Rattle.pages.specs.Steps.{length_in, length_at, walk_at, entries_at, entry_at, length_inside, data_words_length, entries_on, entries_end}
 use Rattle.std.proofs.lemmas.Option.{same_Some}
+use Rattle.area.specs.declared.run.Run.{Run}
 use Rattle.entries.specs.declared.walk.Cursor.{Cursor}
 use Rattle.entries.specs.declared.walk.Entries.{Entries}
 use Rattle.entries.specs.declared.walk.Header.{Header}
@@ -47,9 +48,13 @@ ahead a f c = onward a f c.place c.end c.left
 abbrev pub first_cursor : Area → Cursor
 first_cursor a = record { place = 2; end = a.words; left = a.pages - 1 }
 
+-- the entries of an area that is read
+abbrev pub entries_of : Run → List Entry
+entries_of r = entries r.area r.words.now
+
 -- those that a walk has left
 abbrev pub left_of : Entries → List Entry
-left_of s = ahead s.area s.flash.now s.cursor
+left_of s = ahead s.run.area s.run.words.now s.cursor
 
 -- the header of an entry
 abbrev pub header_of : Entry → Header
@@ -82,8 +87,7 @@ pub record Passed (a : Area) (f : List ℕ) (c : Cursor) (h : Header) (d : Curso
 
 -- a walk stands in a page of its area
 pub record Standing (s : Entries) : Type 0 where
-  pub right : Right s.area s.flash.now
-  pub sound : Sound s.area s.flash.now s.cursor
+  pub sound : Sound s.run.area s.run.words.now s.cursor
 
 -- a step of a walk gives the header of the first of the entries left, and leaves the others, or gives none where none is left
 abbrev pub Gives : Entries → Option Header → Entries → Type 0
@@ -91,9 +95,8 @@ Gives s None t = (left_of s ≡ []) × (left_of t ≡ [])
 Gives s (Some h) t = Heads (left_of s) h (left_of t) × (s.cursor.place ≤ h.place) × (h.place < t.cursor.place)
 
 -- a walk over some entries of an area
-pub record Over (a : Area) (f : List ℕ) (es : List Entry) (s : Entries) : Type 0 where
-  pub area : s.area ≡ a
-  pub flash : s.flash.now ≡ f
+pub record Over (r : Run) (es : List Entry) (s : Entries) : Type 0 where
+  pub run : s.run ≡ r
   pub standing : Standing s
   pub left : left_of s ≡ es
 
@@ -297,8 +300,8 @@ module _ {a : Area} {f g : List ℕ} {c d : Cursor} {n : ℕ} (s : Turning a f c
 pub first_sound : {a : Area} {f : List ℕ} → Right a f → Sound a f (first_cursor a)
 first_sound r = let j = r.wide in record { ends = first_ends r; within = omega arith }
 
-pub first_over : {a : Area} {f : List ℕ} {s : Entries} {c : Cursor} → Right a f → s.area ≡ a → s.flash.now ≡ f → s.cursor ≡ c → c ≡ first_cursor a → Over a f (entries a f) s
-first_over r x y z w = record { area = x; flash = y; standing = rw (x, y, z, w) (record { right = r; sound = first_sound r }); left = rw (x, y, z, w) (first_onward r) }
+pub first_over : {r : Run} {s : Entries} {c : Cursor} → s.run ≡ r → s.cursor ≡ c → c ≡ first_cursor r.area → Over r (entries_of r) s
+first_over {r} x z w = record { run = x; standing = rw (x, z, w) (record { sound = first_sound r.right }); left = rw (x, z, w) (first_onward r.right) }
 
 pub ruleset cursors = (turning_start, turning_on, turned_none, turned_all, turned_sound, turned_passed)
 

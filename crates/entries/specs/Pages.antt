@@ -13,10 +13,11 @@ use Rattle.rules.specs.Areas.{base, Entry, page_entries, entries_from, entries, 
 use Rattle.rules.specs.Places.{Right, base_suc, base_zero, base_le, base_in, page_in}
 use Rattle.area.specs.Checks.{base_fits, end_fits}
 use Rattle.pages.specs.Steps.{length_at, entries_at, entry_at, length_inside, entries_on, entries_end}
+use Rattle.area.specs.declared.run.Run.{Run}
 use Rattle.entries.specs.declared.walk.Cursor.{Cursor}
 use Rattle.entries.specs.declared.walk.Entries.{Entries}
 use Rattle.entries.specs.declared.walk.Header.{Header}
-use Rattle.entries.specs.Ahead.{onward, ahead, left_of, first_cursor, header_of, Heads, Ends, Sound, Standing, Over, first_over, page_onward, ends_next, onward_next}
+use Rattle.entries.specs.Ahead.{onward, ahead, entries_of, left_of, first_cursor, header_of, Heads, Ends, Sound, Standing, Over, first_over, page_onward, ends_next, onward_next}
 
 -- ---- entries in front of a place
 abbrev pub AllBelow : ℕ → List Entry → Type 0
@@ -122,23 +123,25 @@ below_append n [] e b l = (l, tt)
 below_append n (d ∷ x) e b l = (b.0, below_append n x e b.1 l)
 
 -- ---- a walk over entries among which are all that lie at a place or behind it
-pub record From (a : Area) (f : List ℕ) (place : ℕ) (s : Entries) : Type 0 where
+pub record From (r : Run) (place : ℕ) (s : Entries) : Type 0 where
   pub index : ℕ
-  pub inside : index < a.pages
-  pub before : base a index ≤ place
-  pub over : Over a f (entries_from a f (a.pages - index) index) s
+  pub inside : index < r.area.pages
+  pub before : base r.area index ≤ place
+  pub over : Over r (entries_from r.area r.words.now (r.area.pages - index) index) s
   pub front : 2 ≤ s.cursor.place
 
 -- so a search for one of these gives what it gives in all
-pub from_same : {a : Area} {f : List ℕ} {s : Entries} {p : ℕ} (t : Entry → Bool) → ((e : Entry) → e.place < p → t e ≡ false) → From a f p s → Right a f
-    → first_of t (left_of s) ≡ first_of t (entries a f)
+pub from_same : {r : Run} {s : Entries} {p : ℕ} (t : Entry → Bool) → ((e : Entry) → e.place < p → t e ≡ false) → From r p s
+    → first_of t (left_of s) ≡ first_of t (entries_of r)
 unfolding entries
-from_same {a} {f} {s} {p} t n x r =
+from_same {r} {s} {p} t n x =
+    let a = r.area in
+    let f = r.words.now in
     let i = x.index in
     let z : i + 0 ≡ i = omega arith in
     let m : a.pages - 0 ≡ a.pages = omega arith in
     let b : i + 0 < a.pages = omega (arith, x.inside) in
-    ap (first_of t) x.over.left ∙ sym (rw (m, z) at (first_from t p n {a = a} {f = f} r i 0 b (rw z x.before)))
+    ap (first_of t) x.over.left ∙ sym (rw (m, z) at (first_from t p n {a = a} {f = f} r.right i 0 b (rw z x.before)))
 
 -- ---- the walk has come to the first entry that does not lie in front of the place, and was moved over it
 pub record Reached (p : ℕ) (s : Entries) (h : Header) (u : Entries) : Type 0 where
@@ -193,11 +196,12 @@ heads_fewer y = rw y.first (omega arith)
 pub ruleset reaches = (reaching_start, reaching_on, reached_here, reaching_end, heads_fewer)
 
 -- ---- a walk from the first entry of a page
-pub from_first : {a : Area} {f : List ℕ} {s : Entries} (p : ℕ) → s.area ≡ a → s.flash.now ≡ f → s.cursor ≡ first_cursor a → Right a f → From a f p s
+pub from_first : {r : Run} {s : Entries} (p : ℕ) → s.run ≡ r → s.cursor ≡ first_cursor r.area → From r p s
 unfolding entries
-from_first {a} {f} p x y z r =
+from_first {r} p x z =
+    let a = r.area in
     let m : a.pages - 0 ≡ a.pages = omega arith in
-    record { index = 0; inside = r.some_pages; before = omega (arith, base_zero a); over = rw m (first_over r x y z refl); front = rw z (omega arith) }
+    record { index = 0; inside = r.right.some_pages; before = omega (arith, base_zero a); over = rw m (first_over x z refl); front = rw z (omega arith) }
 
 module _ {a : Area} {f : List ℕ} (i : ℕ) (r : Right a f) (h : i < a.pages) where
   pub page_ends : Ends a f (i * a.words + a.words) (a.pages - 1 - i)
@@ -213,21 +217,22 @@ module _ {a : Area} {f : List ℕ} (i : ℕ) (r : Right a f) (h : i < a.pages) w
       let m : a.pages - i ≡ suc (a.pages - 1 - i) = omega arith in
       rw (e, m, page_onward a f i (base_in r i (omega arith)))
 
-pub from_page : {a : Area} {f : List ℕ} {s : Entries} (p : ℕ) → s.area ≡ a → s.flash.now ≡ f
-    → s.cursor ≡ record { place = p / a.words * a.words + 2; end = p / a.words * a.words + a.words; left = a.pages - 1 - p / a.words } → Right a f → p / a.words < a.pages → From a f p s
+pub from_page : {r : Run} {s : Entries} (p : ℕ) → s.run ≡ r
+    → s.cursor ≡ record { place = p / r.area.words * r.area.words + 2; end = p / r.area.words * r.area.words + r.area.words; left = r.area.pages - 1 - p / r.area.words }
+    → p / r.area.words < r.area.pages → From r p s
 unfolding base
-from_page {a} {f} p x y z r h =
+from_page {r} p x z h =
+    let a = r.area in
     let i = p / a.words in
-    let j = r.wide in
+    let j = r.right.wide in
     record {
       index = i;
       inside = h;
       before = div-mul-le_self p a.words;
       over = record {
-        area = x;
-        flash = y;
-        standing = rw (x, y, z) (record { right = r; sound = record { ends = page_ends i r h; within = omega arith } });
-        left = rw (x, y, z) (page_ahead i r h);
+        run = x;
+        standing = rw (x, z) (record { sound = record { ends = page_ends i r.right h; within = omega arith } });
+        left = rw (x, z) (page_ahead i r.right h);
       };
       front = rw z (omega arith);
     }

@@ -11,7 +11,7 @@ use Rattle.rules.specs.declared.Area.{Area}
 use Rattle.rules.specs.Words.{is_live}
 use Rattle.rules.specs.Areas.{Entry, entries, any_of, first_of}
 use Rattle.rules.specs.Search.{matches, wanted, next, is_at, bad_place}
-use Rattle.rules.specs.Places.{Right}
+use Rattle.area.specs.declared.run.Run.{Run}
 use Rattle.entries.specs.declared.walk.Entries.{Entries}
 use Rattle.entries.specs.declared.walk.Header.{Header}
 use Rattle.entries.specs.Ahead.{left_of, Heads, any_first, Finding, finding_on, finding_found}
@@ -39,11 +39,17 @@ pub record Stepping (mask pattern : ℕ) (b : Bool) (o : Option Entry) (es : Lis
   pub finding : Finding (matches mask pattern) o es
 
 -- ---- whether an entry begins at a place, by the first that does not lie in front of it
-module _ {a : Area} {f : List ℕ} {s : Entries} {p : ℕ} (x : From a f p s) (r : Right a f) (z : p ≡ 0 → ⊥) where
+module _ {r : Run} {s : Entries} {p : ℕ} (x : From r p s) (z : p ≡ 0 → ⊥) where
+  abbrev a : Area
+  a = r.area
+
+  abbrev f : List ℕ
+  f = r.words.now
+
   bad_by : {o : Option Entry} → first_of (is_at p) (left_of s) ≡ o → bad_place a f p ≡ is_none o
   unfolding bad_place
   bad_by {o} q =
-      let e : first_of (is_at p) (left_of s) ≡ first_of (is_at p) (entries a f) = from_same (is_at p) (λ e l. ne_eqb e.place p (λ q. omega arith)) x r in
+      let e : first_of (is_at p) (left_of s) ≡ first_of (is_at p) (entries a f) = from_same (is_at p) (λ e l. ne_eqb e.place p (λ q. omega arith)) x in
       let t : not (any_of (is_at p) (entries a f)) ≡ is_none o = ap not (any_first (is_at p) (entries a f)) ∙ twice (is_none (first_of (is_at p) (entries a f))) ∙ ap is_none (sym e ∙ q) in
       rw (ne_eqb p 0 z, t)
     where
@@ -60,7 +66,7 @@ module _ {a : Area} {f : List ℕ} {s : Entries} {p : ℕ} (x : From a f p s) (r
 
   module _ {h : Header} {u : Entries} (y : Reached p s h u) where
     above : AllAbove (suc h.place) (left_of u)
-    above = ahead_above (suc h.place) y.on y.standing.right y.standing.sound
+    above = ahead_above (suc h.place) y.on u.run.right y.standing.sound
 
     found_first : (t : Entry → Bool) → ((e : Entry) → e.place < p → t e ≡ false) → first_of t (left_of s) ≡ first_of t (y.entry ∷ left_of u)
     found_first t n = ap (first_of t) y.whole ∙ below_past t p n y.passed (y.entry ∷ left_of u) y.below
@@ -90,18 +96,19 @@ module _ {a : Area} {f : List ℕ} {s : Entries} {p : ℕ} (x : From a f p s) (r
           let b : AllAbove (suc p) (left_of u) = rw (ap suc e) at above in
           record {
             right = right_place;
-            finding = record { same = sym (wanted_above mask pattern p (left_of u) b) ∙ sym (found_first (wanted mask pattern p) n ∙ rw z) ∙ from_same (wanted mask pattern p) n x r };
+            finding = record { same = sym (wanted_above mask pattern p (left_of u) b) ∙ sym (found_first (wanted mask pattern p) n ∙ rw z) ∙ from_same (wanted mask pattern p) n x };
           }
 
 -- ---- a step from the area's first entry on
-pub stepping_start : {a : Area} {f : List ℕ} {s : Entries} {p : ℕ} (mask pattern : ℕ) → From a f p s → Right a f → p ≡ 0 → Stepping mask pattern (bad_place a f p) (next a f mask pattern p) (left_of s)
+pub stepping_start : {r : Run} {s : Entries} {p : ℕ} (mask pattern : ℕ) → From r p s → p ≡ 0
+    → Stepping mask pattern (bad_place r.area r.words.now p) (next r.area r.words.now mask pattern p) (left_of s)
 unfolding next bad_place
-stepping_start {a} {f} {s} {p} mask pattern x r z =
+stepping_start {s = s} {p = p} mask pattern x z =
     let n : (d : Entry) → d.place < p → wanted mask pattern p d ≡ false = λ d l. rw (le-ltb p d.place (omega arith)) in
     let i = x.over in
     let c : 1 ≤ s.cursor.place = omega (arith, x.front) in
-    let b : AllAbove (suc p) (left_of s) = rw z (ahead_above 1 c i.standing.right i.standing.sound) in
-    record { right = rw (eq-eqb p 0 z); finding = record { same = sym (wanted_above mask pattern p (left_of s) b) ∙ from_same (wanted mask pattern p) n x r } }
+    let b : AllAbove (suc p) (left_of s) = rw z (ahead_above 1 c s.run.right i.standing.sound) in
+    record { right = rw (eq-eqb p 0 z); finding = record { same = sym (wanted_above mask pattern p (left_of s) b) ∙ from_same (wanted mask pattern p) n x } }
 
 module _ {b : Bool} {o : Option Entry} {es : List Entry} {mask pattern : ℕ} (s : Stepping mask pattern b o es) where
   stepped_by : {u : Option Entry} → u ≡ o → match_of u ≡ stepped_of b o

@@ -4,7 +4,7 @@
 // of `rules`, and those of `Noting`, which say what the map and what is kept beside it become.
 //
 // Every function here is proved. Of the public ones `new` asks for nothing, `note` for a handle of 16
-// bits, `confirmed` for a right geometry, and `confirmed` and `drop_in` for the windows that noting all
+// bits, and `confirmed` and `drop_in` for the windows that noting all
 // live handles gives. `drop_in` and `drop_doubles` alone store; the others change no word of the flash.
 ghost use Rattle.std.specs.Prelude.{true, false, ◌&&◌, ◌≡◌, ◌/◌, ◌^◌, ◌<◌, IfSome};
 ghost use Rattle.std.specs.Option.{ForSome, is_some};
@@ -12,17 +12,15 @@ ghost use Rattle.std.specs.Int.Bits.{bit_or};
 ghost use Rattle.rules.specs.Words.{is_live};
 ghost use Rattle.rules.specs.Areas.{entries, twice};
 ghost use Rattle.rules.specs.Lists.{drop_doubles};
-ghost use Rattle.rules.specs.Places.{Right};
 ghost use Rattle.area.specs.Holding.{Runs};
 ghost use Rattle.entries.specs.Noting.{has, marked, kept, noted, unseen, all_noted, any_handle, beside, blank_map, nothing};
-ghost use Rattle.entries.specs.Ahead.{ahead, Sound};
+ghost use Rattle.entries.specs.Ahead.{ahead, entries_of, Sound};
 ghost use Rattle.entries.specs.Doubles.{drops, put_if};
 ghost use Rattle.entries.specs.Repeats.{twice_in, both};
 ghost use Rattle.entries.specs.Sweeping.{Windowed};
 
 use crate::walk::{Cursor, Entries, Header};
-use area::Held;
-use rules::Area;
+use area::{Held, Run};
 
 // What was seen of handles: a map of those noted, the highest of them, and the windows of 1,024
 // handles in which one may have been noted twice, one bit for each.
@@ -98,12 +96,11 @@ impl Seen {
 
 // The windows in which a handle may be live twice.
 #[tactic(auto, using(crate::specs::Sweeping::sweeps))]
-fn suspects(flash: &[u32], area: Area) -> u64
-    requires { Right area flash.now }
-    ensures { result ≡ (all_noted any_handle blank_map nothing (entries area flash.now)).windows }
+fn suspects(run: Run) -> u64
+    ensures { result ≡ (all_noted any_handle blank_map nothing (entries_of run.entry)).windows }
 {
     let mut seen = Seen::new();
-    for entry in Entries::of(flash, area) {
+    for entry in Entries::of(run) {
         if entry.handle != 0 {
             seen.note(entry.handle);
         }
@@ -128,13 +125,12 @@ fn mark_in(map: &mut [u64; 16], window: u32, aside: u32, handle: u32) -> bool
 // A handle of a window that is live twice, one handle left aside. To leave aside 0 is to leave none
 // aside, since no live entry has it.
 #[tactic(auto, using(crate::specs::Sweeping::sweeps))]
-fn repeated(flash: &[u32], area: Area, window: u32, aside: u32) -> Option<u32>
-    requires { Right area flash.now }
-    ensures twice { is_some result ≡ twice_in (both (beside aside) window) (entries area flash.now) }
+fn repeated(run: Run, window: u32, aside: u32) -> Option<u32>
+    ensures twice { is_some result ≡ twice_in (both (beside aside) window) (entries_of run.entry) }
     ensures within { IfSome result (λ h. h / 1024 ≡ window) }
 {
     let mut map = [0u64; 16];
-    for entry in Entries::of(flash, area) {
+    for entry in Entries::of(run) {
         if mark_in(&mut map, window, aside, entry.handle) {
             return Some(entry.handle);
         }
@@ -144,28 +140,28 @@ fn repeated(flash: &[u32], area: Area, window: u32, aside: u32) -> Option<u32>
 
 // The same of a window in which there may be one, by the windows in which there may be.
 #[tactic(auto, using(crate::specs::Sweeping::windows))]
-fn repeated_if(flash: &[u32], area: Area, windows: u64, window: u32, aside: u32) -> Option<u32>
-    requires { Right area flash.now × (windows ≡ (all_noted any_handle blank_map nothing (entries area flash.now)).windows) × (window < 64) }
-    ensures twice { is_some result ≡ twice_in (both (beside aside) window) (entries area flash.now) }
+fn repeated_if(run: Run, windows: u64, window: u32, aside: u32) -> Option<u32>
+    requires { (windows ≡ (all_noted any_handle blank_map nothing (entries_of run)).windows) × (window < 64) }
+    ensures twice { is_some result ≡ twice_in (both (beside aside) window) (entries_of run.entry) }
     ensures within { IfSome result (λ h. h / 1024 ≡ window) }
 {
     if windows & bit(window) == 0 {
         return None;
     }
-    repeated(flash, area, window, aside)
+    repeated(run, window, aside)
 }
 
 // A handle that is live twice, one handle left aside. It is looked for in the windows in which there
 // may be one, from a window on below which there is none. Below the window of the handle that is
 // found there is none either.
 #[tactic(auto, using(crate::specs::Sweeping::windows))]
-fn doubled(flash: &[u32], area: Area, windows: u64, start: u32, aside: u32) -> Option<u32>
-    requires { Right area flash.now × (windows ≡ (all_noted any_handle blank_map nothing (entries area flash.now)).windows) × Windowed (beside aside) (entries area flash.now) start }
-    ensures twice { is_some result ≡ twice_in (beside aside) (entries area flash.now) }
-    ensures below { IfSome result (λ h. Windowed (beside aside) (entries area flash.now) (h / 1024)) }
+fn doubled(run: Run, windows: u64, start: u32, aside: u32) -> Option<u32>
+    requires { (windows ≡ (all_noted any_handle blank_map nothing (entries_of run)).windows) × Windowed (beside aside) (entries_of run) start }
+    ensures twice { is_some result ≡ twice_in (beside aside) (entries_of run.entry) }
+    ensures below { IfSome result (λ h. Windowed (beside aside) (entries_of run.entry) (h / 1024)) }
 {
     for window in start..64 {
-        let handle = repeated_if(flash, area, windows, window, aside);
+        let handle = repeated_if(run, windows, window, aside);
         if handle.is_some() {
             return handle;
         }
@@ -175,23 +171,23 @@ fn doubled(flash: &[u32], area: Area, windows: u64, start: u32, aside: u32) -> O
 
 // Whether some handle is live twice, by the windows in which one may be.
 #[tactic(auto, using(crate::specs::Sweeping::confirms))]
-pub fn confirmed(flash: &[u32], area: Area, windows: u64) -> bool
-    requires { Right area flash.now × (windows ≡ (all_noted any_handle blank_map nothing (entries area flash.now)).windows) }
-    ensures { result ≡ twice (entries area flash.now) }
+pub fn confirmed(run: Run, windows: u64) -> bool
+    requires { windows ≡ (all_noted any_handle blank_map nothing (entries_of run)).windows }
+    ensures { result ≡ twice (entries_of run.entry) }
 {
-    doubled(flash, area, windows, 0, 0).is_some()
+    doubled(run, windows, 0, 0).is_some()
 }
 
 // Whether a handle is live from a cursor on. Where one handle alone may be live twice, no other is
 // looked for.
 #[tactic(auto, using(crate::specs::Doubles::dropped))]
-fn is_behind(flash: &[u32], area: Area, start: Cursor, handle: u32, only: Option<u32>) -> bool
-    requires { Right area flash.now × Sound area flash.now start }
-    ensures { result ≡ drops only handle (ahead area flash.now start) }
+fn is_behind(run: Run, start: Cursor, handle: u32, only: Option<u32>) -> bool
+    requires { Sound run.area run.words.now start }
+    ensures { result ≡ drops only handle (ahead run.entry.area run.entry.words.now start) }
 {
     match only {
         Some(one) if handle != one => false,
-        _ => Entries::from_cursor(flash, area, start).has_live(handle),
+        _ => Entries::from_cursor(run, start).has_live(handle),
     }
 }
 
@@ -201,7 +197,7 @@ fn drop_doubled(held: &mut Held, entry: Header, behind: Cursor, only: Option<u32
     requires { Sound held.old.area held.old.run.now behind × (entry.length < 65536) }
     ensures { Runs (put_if (drops only entry.handle (ahead held.old.area held.old.run.now behind)) entry.place entry.length) held.old held.new }
 {
-    if is_behind(held.words(), held.area, behind, entry.handle, only) {
+    if is_behind(held.as_run(), behind, entry.handle, only) {
         held.store(entry.place, entry.length as u32);
     }
 }
@@ -215,7 +211,7 @@ fn drop_each(held: &mut Held, only: Option<u32>)
     ensures { Runs (drop_doubles held.old.area held.old.run.now) held.old held.new }
 {
     let mut cursor = Cursor::first(held.area);
-    while let Some(entry) = cursor.next(held.words(), held.area) {
+    while let Some(entry) = cursor.next(held.as_run()) {
         drop_doubled(held, entry, cursor, only);
     }
 }
@@ -226,12 +222,11 @@ pub fn drop_in(held: &mut Held, windows: u64)
     requires { windows ≡ (all_noted any_handle blank_map nothing (entries held.old.area held.old.run.now)).windows }
     ensures { Runs (drop_doubles held.old.area held.old.run.now) held.old held.new }
 {
-    let flash = held.words();
-    let area = held.area;
-    let Some(one) = doubled(flash, area, windows, 0, 0) else {
+    let run = held.as_run();
+    let Some(one) = doubled(run, windows, 0, 0) else {
         return;
     };
-    let other = doubled(flash, area, windows, one / 1024, one);
+    let other = doubled(run, windows, one / 1024, one);
     let only = if other.is_none() { Some(one) } else { None };
     drop_each(held, only);
 }
@@ -240,6 +235,6 @@ pub fn drop_in(held: &mut Held, windows: u64)
 pub fn drop_doubles(held: &mut Held)
     ensures { Runs (drop_doubles held.old.area held.old.run.now) held.old held.new }
 {
-    let windows = suspects(held.words(), held.area);
+    let windows = suspects(held.as_run());
     drop_in(held, windows);
 }

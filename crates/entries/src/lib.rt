@@ -2,21 +2,21 @@
 //! twice and the stores that mend it, and a step of a search by a filter. Promises are the definitions
 //! of `rules`.
 //!
-//! Every function here is proved. `step` asks for a right geometry, `up_to` for a place inside the run,
-//! and `passes` for nothing. None stores; in `doubles` two do.
+//! Every function here is proved. `up_to` asks for a place inside the run, and the others for nothing.
+//! None stores; in `doubles` two do.
 #![tactic(auto)]
 
 ghost use Rattle.std.specs.Prelude.{◌&&◌, ◌≡◌, ◌≤◌, eqb, length, take};
 ghost use Rattle.std.specs.Int.Bits.{bit_and};
 ghost use Rattle.rules.specs.Words.{is_live};
 ghost use Rattle.rules.specs.Search.{next, bad_place};
-ghost use Rattle.rules.specs.Places.{Right};
 ghost use Rattle.entries.specs.Step.{stepped_of};
 
 pub mod doubles; // doubles.rt: handles that are live twice
 pub mod walk; // walk.rt: the walk over the entries
 
-use rules::{Area, Refusal, Yielded};
+use area::Run;
+use rules::{Refusal, Yielded};
 use walk::Entries;
 
 // The run up to a place.
@@ -34,15 +34,14 @@ pub fn passes(handle: u32, mask: u32, pattern: u32) -> bool
     handle != 0 && handle & mask == pattern & mask
 }
 
-// A step of a search: the next match behind a place, if the place is 0 or that of an entry's
-// header; BADPLACE if it is neither, NOTFOUND if there is no match. It walks once: places grow in area order, so the first entry that does not lie in front of
-// the place tells whether one begins there.
+// A step of a search: the next match behind a place, if the place is 0 or that of an entry's header;
+// BADPLACE if it is neither, NOTFOUND if there is no match. It walks once: places grow in area order,
+// so the first entry that does not lie in front of the place tells whether one begins there.
 #[tactic(auto, using(crate::specs::Step::stepping))]
-pub fn step(flash: &[u32], area: Area, mask: u32, pattern: u32, start: usize) -> Yielded
-    requires { Right area flash.now }
-    ensures { result ≡ stepped_of (bad_place area flash.now start) (next area flash.now mask pattern start) }
+pub fn step(run: Run, mask: u32, pattern: u32, start: usize) -> Yielded
+    ensures { let a = run.entry.area in let f = run.entry.words.now in result ≡ stepped_of (bad_place a f start) (next a f mask pattern start) }
 {
-    let mut entries = Entries::from_page_of(flash, area, start);
+    let mut entries = Entries::from_page_of(run, start);
     if start != 0 {
         let Some(entry) = entries.reach(start) else {
             return Err(Refusal::BadPlace);

@@ -4,12 +4,12 @@
 // Every function here is proved, and none stores. `Entries::of` asks for a right geometry.
 ghost use Rattle.std.specs.Prelude.{◌≡◌, ◌≤◌, [], MatchOption};
 ghost use Rattle.std.specs.Iterator.{item_count};
-ghost use Rattle.rules.specs.Areas.{entries, any_of, live_of};
-ghost use Rattle.rules.specs.Places.{Right};
-ghost use Rattle.entries.specs.Ahead.{ahead, left_of, first_cursor, Sound, Passed, Standing, Gives, Over};
+ghost use Rattle.rules.specs.Areas.{any_of, live_of};
+ghost use Rattle.entries.specs.Ahead.{ahead, entries_of, left_of, first_cursor, Sound, Passed, Standing, Gives, Over};
 ghost use Rattle.entries.specs.Pages.{From, Reached, AllBelow};
 
 use crate::up_to;
+use area::Run;
 use rules::Area;
 
 // The header of an entry: its place in the run, the entry's handle and its length.
@@ -44,15 +44,15 @@ impl Cursor {
 
     // Moves over the next entry, and gives its header.
     #[tactic(auto, using(crate::specs::Ahead::cursors))]
-    pub(crate) fn next(&mut self, flash: &[u32], area: Area) -> Option<Header>
-        requires { Right area flash.now × Sound area flash.now self.old }
-        ensures sound { Sound area flash.now self.new }
-        ensures gives { MatchOption result ((ahead area flash.now self.old ≡ []) × (ahead area flash.now self.new ≡ [])) (λ h. Passed area flash.now self.old h self.new) }
+    pub(crate) fn next(&mut self, run: Run) -> Option<Header>
+        requires { Sound run.area run.words.now self.old }
+        ensures sound { Sound run.entry.area run.entry.words.now self.new }
+        ensures gives { let a = run.entry.area in let f = run.entry.words.now in MatchOption result ((ahead a f self.old ≡ []) × (ahead a f self.new ≡ [])) (λ h. Passed a f self.old h self.new) }
     {
         loop {
             let place = self.place;
-            if let Some(length) = pages::length_at(up_to(flash, self.end), place) {
-                let handle = pages::handle_of(flash[place]);
+            if let Some(length) = pages::length_at(up_to(run.words, self.end), place) {
+                let handle = pages::handle_of(run.words[place]);
                 self.place += length;
                 return Some(Header {
                     place,
@@ -64,7 +64,7 @@ impl Cursor {
                 return None;
             }
             self.place = self.end + 2;
-            self.end += area.words;
+            self.end += run.area.words;
             self.left -= 1;
         }
     }
@@ -73,8 +73,7 @@ impl Cursor {
 // The entries of an area from a cursor on.
 #[derive(Clone, Copy, Drop)]
 pub struct Entries<'a> {
-    flash: &'a [u32],
-    area: Area,
+    run: Run<'a>,
     cursor: Cursor,
 }
 
@@ -88,50 +87,37 @@ impl<'a> Iterator for Entries<'a> {
     ghost remaining = { item_count left_of };
 
     fn next(&mut self) -> Option<Header> {
-        self.cursor.next(self.flash, self.area)
+        self.cursor.next(self.run)
     }
 }
 
 impl<'a> Entries<'a> {
     // All entries of an area.
-    pub fn of(flash: &'a [u32], area: Area) -> Entries<'a>
-        requires { Right area flash.now }
-        ensures { Over area flash.now (entries area flash.now) result }
+    pub fn of(run: Run<'a>) -> Entries<'a>
+        ensures { Over run.entry (entries_of run.entry) result }
     {
-        let cursor = Cursor::first(area);
-        Entries {
-            flash,
-            area,
-            cursor,
-        }
+        let cursor = Cursor::first(run.area);
+        Entries { run, cursor }
     }
 
     // Those from a cursor on.
-    pub(crate) fn from_cursor(flash: &'a [u32], area: Area, cursor: Cursor) -> Entries<'a>
-        requires { Right area flash.now × Sound area flash.now cursor }
-        ensures { Over area flash.now (ahead area flash.now cursor) result }
+    pub(crate) fn from_cursor(run: Run<'a>, cursor: Cursor) -> Entries<'a>
+        requires { Sound run.area run.words.now cursor }
+        ensures { Over run.entry (ahead run.entry.area run.entry.words.now cursor) result }
     {
-        Entries {
-            flash,
-            area,
-            cursor,
-        }
+        Entries { run, cursor }
     }
 
     // Entries among which are all that lie at a place or behind it: those from the page on that the
     // place lies in, or all, where none does.
-    pub(crate) fn from_page_of(flash: &'a [u32], area: Area, place: usize) -> Entries<'a>
-        requires { Right area flash.now }
-        ensures { From area flash.now place result }
+    pub(crate) fn from_page_of(run: Run<'a>, place: usize) -> Entries<'a>
+        ensures { From run.entry place result }
     {
+        let area = run.area;
         let index = place / area.words;
         if area.pages <= index {
             let cursor = Cursor::first(area);
-            return Entries {
-                flash,
-                area,
-                cursor,
-            };
+            return Entries { run, cursor };
         }
         let base = index * area.words;
         let cursor = Cursor {
@@ -139,11 +125,7 @@ impl<'a> Entries<'a> {
             end: base + area.words,
             left: area.pages - 1 - index,
         };
-        Entries {
-            flash,
-            area,
-            cursor,
-        }
+        Entries { run, cursor }
     }
 
     // Moves over the entries in front of a place and the first that does not lie in front of it, and

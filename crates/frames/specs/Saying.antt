@@ -12,11 +12,14 @@ use Rattle.flash.specs.Laws.{settled, le_or_lt}
 use Rattle.rules.specs.declared.Area.{Area}
 use Rattle.rules.specs.Words.{is_live}
 use Rattle.rules.specs.Areas.{Entry, entries}
+use Rattle.rules.specs.declared.Refusal.{Refusal}
 use Rattle.rules.specs.Refusals.{wrong_geometry}
+use Rattle.rules.specs.Places.{right_passes}
 use Rattle.rules.specs.Search.{matches}
 use Rattle.entries.specs.declared.walk.Header.{Header}
-use Rattle.entries.specs.Ahead.{Heads}
-use Rattle.area.specs.Checks.{geometry_right}
+use Rattle.entries.specs.Ahead.{Heads, entries_of}
+use Rattle.area.specs.declared.run.Run.{Run}
+use Rattle.area.specs.Reading.{Shows, Refuses}
 use Rattle.frames.specs.declared.Shape.{Shape}
 use Rattle.frames.specs.declared.Reply.{Reply}
 use Rattle.frames.specs.declared.Said.{Said}
@@ -228,18 +231,20 @@ pub ruleset listings = (handles_start, handles_on, handles_end)
 
 -- ---- the tail of an answer
 -- the handles of a shape's area, by what a function has found of its run
-module _ {run : List ℕ} {area : Area} {b : Bool} (a : Shape) (f : List ℕ) (mask pattern : ℕ) (q : b ≡ wrong_geometry area run) (is : area ≡ area_of a) (cut : run ≡ run_of a f) where
-  by_run : list_handles a mask pattern f ≡ cond b [] (handles mask pattern (entries area run))
+module _ {run : List ℕ} {area : Area} (a : Shape) (f : List ℕ) (mask pattern : ℕ) (is : area ≡ area_of a) (cut : run ≡ run_of a f) where
+  by_run : list_handles a mask pattern f ≡ cond (wrong_geometry area run) [] (handles mask pattern (entries area run))
   unfolding list_handles
-  by_run = rw (q, is, cut)
+  by_run = rw (is, cut)
 
-  pub none_listed : {p : Pen} → b ≡ true → Wrote (fours (list_handles a mask pattern f)) p p
-  none_listed t = rw (by_run, t) wrote_none
+  pub none_listed : {why : Refusal} {p : Pen} → Refuses area run why → Wrote (fours (list_handles a mask pattern f)) p p
+  none_listed t = rw (by_run, t.wrong) wrote_none
 
-  pub handles_listed : {m k : ℕ} {p r : Pen} → b ≡ false → Wrote (fours (handles m k (entries area run))) p r → m ≡ mask → k ≡ pattern → Wrote (fours (list_handles a mask pattern f)) p r
-  handles_listed t w x y = rw (by_run, t, ← x, ← y) w
+  pub handles_listed : {r : Run} {m k : ℕ} {p q : Pen} → Shows area run r → Wrote (fours (handles m k (entries_of r))) p q → m ≡ mask → k ≡ pattern → Wrote (fours (list_handles a mask pattern f)) p q
+  handles_listed {r = r} s w x y =
+      let t : wrong_geometry area run ≡ false = rw (s.area, s.words) at (right_passes r.right) in
+      rw (by_run, t, ← x, ← y) (rw (s.area, s.words) at w)
 
-pub ruleset tails = (geometry_right, none_listed)
+pub ruleset tails = (none_listed)
 
 -- ---- what was written in all
 -- of a text on the sheet s that is the sheet z then: behind the bytes that were used comes the piece that there was room for

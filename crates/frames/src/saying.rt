@@ -1,16 +1,15 @@
 // An answer's bytes, put into a lent buffer from any byte on, as far as the buffer has room.
 //
-// Every function here is proved, and none has a `requires` but `digits`, which writes eight at most,
-// and `handles`, which asks for a right geometry. Only the buffer is changed.
+// Every function here is proved, and none has a `requires` but `digits`, which writes eight at most.
+// Only the buffer is changed.
 ghost use Rattle.std.specs.Prelude.{[], ◌∷◌, ◌≡◌, ◌≤◌, suc, ◌%◌, take, drop};
-ghost use Rattle.rules.specs.Areas.{entries};
-ghost use Rattle.rules.specs.Places.{Right};
+ghost use Rattle.entries.specs.Ahead.{entries_of};
 ghost use Rattle.frames.specs.Frames.{digit, eights, fours, handles, list_handles, tail_bytes, bytes, Says};
 ghost use Rattle.frames.specs.Saying.{Wrote, digits, passed};
 
 use crate::{Reply, Said, Shape, Tail};
+use area::Run;
 use entries::walk::Entries;
-use rules::Area;
 
 // A pen over a lent buffer: so many bytes of the text are still to be passed over, so many bytes of
 // the buffer are written, and whether a byte has been left out at the buffer's end, which may come
@@ -77,12 +76,11 @@ impl Pen<'_> {
 
     // Writes the handles in an area that a filter lets through, in area order.
     #[tactic(auto, using(crate::specs::Saying::listings))]
-    fn handles(&mut self, flash: &[u32], area: Area, mask: u32, pattern: u32)
-        requires { Right area flash.now }
+    fn handles(&mut self, run: Run, mask: u32, pattern: u32)
         ensures buffer { self.new.out.ghost_name ≡ self.old.out.ghost_name }
-        ensures wrote { Wrote (fours (handles mask pattern (entries area flash.now))) self.old self.new }
+        ensures wrote { Wrote (fours (handles mask pattern (entries_of run.entry))) self.old self.new }
     {
-        for entry in Entries::of(flash, area) {
+        for entry in Entries::of(run) {
             self.handle(entry.handle, mask, pattern);
         }
     }
@@ -94,12 +92,10 @@ impl Pen<'_> {
         ensures buffer { self.new.out.ghost_name ≡ self.old.out.ghost_name }
         ensures wrote { Wrote (fours (list_handles shape mask pattern flash.now)) self.old self.new }
     {
-        let area = shape.area();
-        let run = shape.run_of(flash);
-        if area::wrong_geometry(run, area) {
+        let Ok(run) = Run::of(shape.run_of(flash), shape.area()) else {
             return;
-        }
-        self.handles(run, area, u32::from(mask), u32::from(pattern));
+        };
+        self.handles(run, u32::from(mask), u32::from(pattern));
     }
 
     // Writes what an answer says behind number and stores.

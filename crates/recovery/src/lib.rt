@@ -23,8 +23,8 @@ fn finish_page(held: &mut Held, index: usize)
     requires { index < held.old.area.pages }
     ensures { Runs (finish_as (Committed index) held.old.area held.old.run.now) held.old held.new }
 {
-    let area = held.area;
-    let stop = pages::stop(area::page_part(held.words(), area, area.pages));
+    let run = held.as_run();
+    let stop = pages::stop(run.page(run.area.pages));
     compaction::restore(held, index, stop - 1);
 }
 
@@ -33,7 +33,7 @@ fn finish_page(held: &mut Held, index: usize)
 fn finish(held: &mut Held)
     ensures { Runs (finish held.old.area held.old.run.now) held.old held.new }
 {
-    match area::recovery_kind(held.words(), held.area) {
+    match held.as_run().recovery() {
         Recovery::Free => {}
         Recovery::Unfinished => stores::erase_page(held, held.area.pages),
         Recovery::Committed(index) => finish_page(held, index),
@@ -69,11 +69,11 @@ fn mend_torn(held: &mut Held, index: usize)
     requires { index < held.old.area.pages }
     ensures { Runs (mend_as Torn held.old.area index held.old.run.now) held.old held.new }
 {
-    let flash = held.words();
-    let area = held.area;
-    let base = stores::base(area, index);
-    let last = last_live(entries::up_to(flash, base + area.words), base + 2);
-    let stop = pages::stop(area::page_part(flash, area, index));
+    let base = stores::base(held.area, index);
+    let end = base + held.area.words;
+    let run = held.as_run();
+    let last = last_live(entries::up_to(run.words, end), base + 2);
+    let stop = pages::stop(run.page(index));
     held.power = stores::bare_found(held.run, last, held.power);
     held.store(base + stop, SEAL);
 }
@@ -83,7 +83,7 @@ fn mend(held: &mut Held, index: usize)
     requires { index < held.old.area.pages }
     ensures { Runs (mend held.old.area index held.old.run.now) held.old held.new }
 {
-    match area::page_kind(held.words(), held.area, index) {
+    match held.as_run().kind(index) {
         Kind::Sealed => {}
         Kind::Torn => mend_torn(held, index),
         Kind::Neither => {}

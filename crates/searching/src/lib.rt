@@ -6,6 +6,7 @@
 
 ghost use Rattle.searching.specs.Searching.{Searches};
 
+use area::Run;
 use rules::{Area, Yielded};
 
 pub mod object; // object.rt: a search as an object
@@ -18,5 +19,6 @@ pub fn search(flash: &[u32], area: Area, mask: u16, pattern: u16, place: usize) 
     ensures { Searches area mask pattern place flash.now result }
 {
     let _ready = survey::survey(flash, area, 0, 0)?;
-    entries::step(flash, area, u32::from(mask), u32::from(pattern), place)
+    let run = Run { words: flash, area };
+    entries::step(run, u32::from(mask), u32::from(pattern), place)
 }

@@ -2,8 +2,8 @@
 //! page's metadata, a header to its bare length; and the list of a format. Promises are the lists of
 //! `rules`, run under power.
 //!
-//! Every function here is proved. Each asks that its places can be counted; those of a page take an
-//! area that is held, the others any run.
+//! Every function here is proved. Those of a page take an area that is held. The others take any run,
+//! which is why the power goes through them by value, and ask that their places can be counted.
 #![tactic(auto)]
 
 ghost use Rattle.std.specs.Prelude.{[], ◌∷◌, ◌⊎◌, ◌≡◌, ◌+◌, ◌≤◌, ◌<◌, length, take, drop};

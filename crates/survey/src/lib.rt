@@ -11,7 +11,6 @@ ghost use Rattle.std.specs.Prelude.{true, ◌≡◌, ◌≤◌, ◌<◌, ◌+◌
 ghost use Rattle.rules.specs.Words.{words_of, size_of, longest};
 ghost use Rattle.rules.specs.Walk.{stop, kind_of};
 ghost use Rattle.rules.specs.Refusals.{is_listed, area_quota};
-ghost use Rattle.rules.specs.Places.{Right};
 ghost use Rattle.entries.specs.Noting.{unseen};
 ghost use Rattle.survey.specs.Passing.{Counted, summary_on, Fitting, Passing, RoomSought, AllPassed};
 ghost use Rattle.survey.specs.Walking.{or_if};
@@ -19,9 +18,7 @@ ghost use Rattle.survey.specs.Surveying.{looked, surveyed};
 
 mod walk; // walk.rt: the entries of one page
 
-use area::{
-    is_damage, is_free, is_sealed, is_sound, names, page_part, recovery_kind, wrong_geometry,
-};
+use area::{Run, is_damage, is_free, is_sealed, is_sound, names};
 use entries::doubles::{Seen, confirmed};
 use rules::{Area, Found, PageSize, Recovery, Refusal};
 use walk::{Walk, walk_on, walk_page};
@@ -147,30 +144,24 @@ fn summary_on(
 }
 
 // Passes a page, from what is known of those before it.
-fn pass_page(
-    flash: &[u32],
-    area: Area,
-    asked: Asked,
-    seen: &mut Seen,
-    before: Summary,
-    index: usize,
-) -> Summary
-    requires { Right area flash.now × Fitting area flash.now asked × (index < area.pages) × Passing area flash.now asked index seen.old before }
-    ensures { Passing area flash.now asked (index + 1) seen.new result }
+fn pass_page(run: Run, asked: Asked, seen: &mut Seen, before: Summary, index: usize) -> Summary
+    requires { Fitting run.area run.words.now asked × (index < run.area.pages) × Passing run.area run.words.now asked index seen.old before }
+    ensures { Passing run.entry.area run.entry.words.now asked (index + 1) seen.new result }
 {
-    let page = page_part(flash, area, index);
+    let page = run.page(index);
     let entry = before.entry;
-    let walk = walk_page(page, index * area.words, asked.handle, seen, entry);
-    summary_on(page, area, asked, before, index, walk)
+    let walk = walk_page(page, index * run.area.words, asked.handle, seen, entry);
+    summary_on(page, run.area, asked, before, index, walk)
 }
 
 // Searches, page by page and on each from entry to entry, for the lowest page whose seal leaves the
 // room, and passes it and those before it on the way; all, if none leaves it. The rule book names the
 // nest: it is left by a label at the first page that fits.
-fn seek_room(flash: &[u32], area: Area, asked: Asked, seen: &mut Seen) -> Sought
-    requires { Right area flash.now × Fitting area flash.now asked × (seen.old ≡ unseen) }
-    ensures { RoomSought area flash.now asked seen.new result }
+fn seek_room(run: Run, asked: Asked, seen: &mut Seen) -> Sought
+    requires { Fitting run.area run.words.now asked × (seen.old ≡ unseen) }
+    ensures { RoomSought run.entry.area run.entry.words.now asked seen.new result }
 {
+    let area = run.area;
     let size = asked.size;
     let last = size.last_seal();
     let mut summary = Summary {
@@ -189,7 +180,7 @@ fn seek_room(flash: &[u32], area: Area, asked: Asked, seen: &mut Seen) -> Sought
                 summary,
             };
         }
-        let page = page_part(flash, area, index);
+        let page = run.page(index);
         let base = index * area.words;
         let found = summary.entry;
         let mut walk = Walk {
@@ -217,37 +208,35 @@ fn seek_room(flash: &[u32], area: Area, asked: Asked, seen: &mut Seen) -> Sought
 }
 
 // Passes all pages: those up to the one with room, and those behind it.
-fn pass_pages(flash: &[u32], area: Area, asked: Asked, seen: &mut Seen) -> Sought
-    requires { Right area flash.now × Fitting area flash.now asked × (seen.old ≡ unseen) }
-    ensures { AllPassed area flash.now asked.handle asked.needed seen.new result }
+fn pass_pages(run: Run, asked: Asked, seen: &mut Seen) -> Sought
+    requires { Fitting run.area run.words.now asked × (seen.old ≡ unseen) }
+    ensures { AllPassed run.entry.area run.entry.words.now asked.handle asked.needed seen.new result }
 {
-    let sought = seek_room(flash, area, asked, seen);
+    let sought = seek_room(run, asked, seen);
     let room = sought.room;
     let mut summary = sought.summary;
-    for index in sought.passed..area.pages {
-        summary = pass_page(flash, area, asked, seen, summary, index);
+    for index in sought.passed..run.area.pages {
+        summary = pass_page(run, asked, seen, summary, index);
     }
     Sought {
         room,
-        passed: area.pages,
+        passed: run.area.pages,
         summary,
     }
 }
 
-// The checks that every request but a format begins with: GEOMETRY, DAMAGED; and, if R is free and
-// all pages are sealed, what is found for a handle and for an entry of so many words, else nothing.
-pub fn look(flash: &[u32], area: Area, handle: u32, needed: usize) -> Result<Option<Sight>, Refusal>
+// The checks that a look makes behind that of the geometry: DAMAGED; and, if R is free and all pages
+// are sealed, what is found for a handle and for an entry of so many words, else nothing.
+#[tactic(auto, using(crate::specs::Verdict::looks))]
+fn look_at(run: Run, handle: u32, needed: usize) -> Result<Option<Sight>, Refusal>
     requires { needed ≤ longest }
-    ensures { result ≡ looked area flash.now handle needed }
+    ensures { result ≡ looked run.entry.area run.entry.words.now handle needed }
 {
-    if wrong_geometry(flash, area) {
-        return Err(Refusal::Geometry);
-    }
-    let recovery = recovery_kind(flash, area);
+    let recovery = run.recovery();
     if is_damage(recovery) {
         return Err(Refusal::Damaged);
     }
-    let size = size_of(area.words);
+    let size = size_of(run.area.words);
     let asked = Asked {
         handle,
         needed,
@@ -255,7 +244,7 @@ pub fn look(flash: &[u32], area: Area, handle: u32, needed: usize) -> Result<Opt
         recovery,
     };
     let mut seen = Seen::new();
-    let sought = pass_pages(flash, area, asked, &mut seen);
+    let sought = pass_pages(run, asked, &mut seen);
     let summary = sought.summary;
     if !summary.sound {
         return Err(Refusal::Damaged);
@@ -277,16 +266,26 @@ pub fn look(flash: &[u32], area: Area, handle: u32, needed: usize) -> Result<Opt
     }))
 }
 
+// The checks that every request but a format begins with: GEOMETRY, DAMAGED; and, if R is free and
+// all pages are sealed, what is found for a handle and for an entry of so many words, else nothing.
+pub fn look(flash: &[u32], area: Area, handle: u32, needed: usize) -> Result<Option<Sight>, Refusal>
+    requires { needed ≤ longest }
+    ensures { result ≡ looked area flash.now handle needed }
+{
+    look_at(Run::of(flash, area)?, handle, needed)
+}
+
 // The checks that write, read, delete and search begin with: GEOMETRY, DAMAGED, UNREADY; and, if all
 // are passed, what is found for a handle and for an entry of so many words.
 pub fn survey(flash: &[u32], area: Area, handle: u32, needed: usize) -> Result<View, Refusal>
     requires { needed ≤ longest }
     ensures { result ≡ surveyed area flash.now handle needed }
 {
-    let Some(sight) = look(flash, area, handle, needed)? else {
+    let run = Run::of(flash, area)?;
+    let Some(sight) = look_at(run, handle, needed)? else {
         return Err(Refusal::Unready);
     };
-    if confirmed(flash, area, sight.windows) {
+    if confirmed(run, sight.windows) {
         return Err(Refusal::Unready);
     }
     Ok(sight.view)

@@ -19,8 +19,8 @@ pub struct Walk {
     pub found: Option<Found>,
 }
 
-// The entry of so many words at a place of the page that begins at a place of the run. A walk comes
-// here once at most: not inlined, it takes no registers of the walk's.
+// The entry of so many words at a place of the page that begins at a place of the run. A walk seldom
+// comes here: not inlined, it takes no registers of the walk's.
 #[cold]
 #[inline(never)]
 fn own_entry(base: usize, at: usize, words: usize) -> Found

@@ -1,4 +1,4 @@
--- The laws of `Appending` on an area that is lent for storing. The list g is the words that were read of it. Assumes nothing.
+-- The laws of `Appending` on an area that is lent for storing. The run r is what was read of it. Assumes nothing.
 use Rattle.std.specs.Prelude.{◌≡◌, refl, List, [], ◌∷◌, ◌++◌, ℕ, ◌+◌, ◌<◌, true, Option, Some, None}
 use Rattle.std.specs.Option.{option_or}
 use Rattle.flash.specs.Stores.{puts, ◌then◌, Ran}
@@ -9,7 +9,9 @@ use Rattle.rules.specs.Walk.{entry_length, stop}
 use Rattle.rules.specs.Areas.{base, page, page_entries, entries, find, ready}
 use Rattle.rules.specs.Lists.{compact, room_page, append, append_to}
 use Rattle.area.specs.declared.held.Held.{Held}
+use Rattle.area.specs.declared.run.Run.{Run}
 use Rattle.area.specs.Holding.{Runs, runs_over}
+use Rattle.area.specs.Reading.{Shows}
 use Rattle.rules.specs.declared.Found.{Found}
 use Rattle.entries.specs.Ahead.{found_of}
 use Rattle.survey.specs.declared.FoundPage.{FoundPage}
@@ -26,10 +28,10 @@ pub held_appended : {x y : Held} {q : Power} {g : List ℕ} {i b n : ℕ} (old :
 held_appended {x} old hd d p q e s h k l = record { ran = appended x.right h k l old hd d p q; area = e; same = s }
 
 -- ---- behind a compaction
-pub held_over : {x y z : Held} {i : ℕ} {g : List ℕ} {old before : Option Found} (h : ℕ) (d : List ℕ) → Runs (append_over y.area h d i old y.run.now) y z → Runs (compact x.area i x.run.now) x y
-    → old ≡ option_or (found_of (find h (page_entries y.area g i))) before → g ≡ y.run.now → before ≡ found_of (find h (entries x.area x.run.now)) → ready x.area x.run.now ≡ true → i < x.area.pages
+pub held_over : {x y z : Held} {i : ℕ} {r : Run} {old before : Option Found} (h : ℕ) (d : List ℕ) → Runs (append_over y.area h d i old y.run.now) y z → Runs (compact x.area i x.run.now) x y
+    → old ≡ option_or (found_of (find h (page_entries r.area r.words.now i))) before → Shows y.area y.run.now r → before ≡ found_of (find h (entries x.area x.run.now)) → ready x.area x.run.now ≡ true → i < x.area.pages
     → Runs ((compact x.area i then append x.area h d i) x.run.now) x z
-held_over {x} h d p q m o b e l = runs_over q p (over_compacted h d (rw q.area at p.ran) q.ran (rw (o, q.area) at m) b (small_words x.run.now x.sized) x.right e l)
+held_over {x} h d p q m o b e l = runs_over q p (over_compacted h d (rw q.area at p.ran) q.ran (rw (o.area, o.words, q.area) at m) b (small_words x.run.now x.sized) x.right e l)
 
 -- ---- the page that it goes to
 module _ {v : View} (h : ℕ) (d : List ℕ) where

@@ -3,8 +3,7 @@
 //! lists of `rules`, run under power.
 //!
 //! Every function here is proved. Those that make an entry ask for a handle of 16 bits and for data
-//! that an entry can have, those that look for one in a page for a right geometry; `write` asks besides
-//! for a ready area, and for what a survey found of it.
+//! that an entry can have; `write` asks besides for a ready area, and for what a survey found of it.
 #![tactic(auto)]
 
 ghost use Rattle.std.specs.Prelude.{true, [], ◌∷◌, ◌++◌, ◌≡◌, ◌≤◌, ◌<◌, length};
@@ -14,7 +13,6 @@ ghost use Rattle.rules.specs.Words.{header, seal};
 ghost use Rattle.rules.specs.Walk.{entry_length, stop};
 ghost use Rattle.rules.specs.Areas.{page, page_entries, entries, find, ready};
 ghost use Rattle.rules.specs.Lists.{compact, room_page, append, append_to};
-ghost use Rattle.rules.specs.Places.{Right};
 ghost use Rattle.area.specs.Holding.{Runs};
 ghost use Rattle.pages.specs.Steps.{entries_at};
 ghost use Rattle.entries.specs.Ahead.{found_of};
@@ -22,9 +20,9 @@ ghost use Rattle.survey.specs.Surveying.{view_of};
 ghost use Rattle.stores.specs.Making.{data_words};
 ghost use Rattle.writing.specs.Moving.{append_over};
 
-use area::Held;
+use area::{Held, Run};
 use flash::Power;
-use rules::{Area, Found, SEAL};
+use rules::{Found, SEAL};
 use survey::View;
 
 // The header of an entry of so many words.
@@ -76,27 +74,21 @@ fn find_ahead(run: &[u32], start: usize, handle: u32) -> Option<Found>
 }
 
 // The first live entry of a handle in a page.
-fn find_in(flash: &[u32], area: Area, index: usize, handle: u32) -> Option<Found>
-    requires { Right area flash.now × (index < area.pages) }
-    ensures { (result ≡ found_of (find handle (page_entries area flash.now index))) × (data_words result ≤ 262144) }
+fn find_in(run: Run, index: usize, handle: u32) -> Option<Found>
+    requires { index < run.area.pages }
+    ensures { (result ≡ found_of (find handle (page_entries run.entry.area run.entry.words.now index))) × (data_words result ≤ 262144) }
 {
-    let start = stores::base(area, index);
-    let run = entries::up_to(flash, start + area.words);
-    find_ahead(run, start + 2, handle)
+    let start = stores::base(run.area, index);
+    let words = entries::up_to(run.words, start + run.area.words);
+    find_ahead(words, start + 2, handle)
 }
 
 // A handle's entry behind the compaction of a page: in that page, or else where it was before.
-fn moved(
-    flash: &[u32],
-    area: Area,
-    index: usize,
-    handle: u32,
-    before: Option<Found>,
-) -> Option<Found>
-    requires { Right area flash.now × (index < area.pages) × (data_words before ≤ 262144) }
-    ensures { (result ≡ option_or (found_of (find handle (page_entries area flash.now index))) before) × (data_words result ≤ 262144) }
+fn moved(run: Run, index: usize, handle: u32, before: Option<Found>) -> Option<Found>
+    requires { (index < run.area.pages) × (data_words before ≤ 262144) }
+    ensures { (result ≡ option_or (found_of (find handle (page_entries run.entry.area run.entry.words.now index))) before) × (data_words result ≤ 262144) }
 {
-    find_in(flash, area, index, handle).or(before)
+    find_in(run, index, handle).or(before)
 }
 
 // A page compacted, and an entry behind those that it keeps; last, the handle's old entry, found
@@ -112,10 +104,9 @@ fn compact_and_append(
     ensures { Runs ((compact held.old.area index then append held.old.area handle «data».now index) held.old.run.now) held.old held.new }
 {
     compaction::compact(held, index);
-    let flash = held.words();
-    let area = held.area;
-    let end = pages::stop(area::page_part(flash, area, index));
-    let old = moved(flash, area, index, handle, before);
+    let run = held.as_run();
+    let end = pages::stop(run.page(index));
+    let old = moved(run, index, handle, before);
     append(held, index, end, old, handle, data);
 }
 

@@ -3,4 +3,4 @@ use Rattle.survey.specs.Passing.{Passing}
 use Rattle.survey.proofs.pass_pages.Given as goal
 
 abbrev pub invariant-loop-index : goal.invariant-loop-index
-invariant-loop-index l = Passing l.area l.flash l.asked l.index l.seen l.summary
+invariant-loop-index l = Passing l.run.area l.run.words.now l.asked l.index l.seen l.summary

@@ -4,13 +4,13 @@ use Rattle.survey.specs.Passing.{Roomless, Entered}
 use Rattle.survey.proofs.seek_room.Given as goal
 
 abbrev pub invariant-entries : goal.invariant-entries
-invariant-entries l = Entered l.area l.flash l.asked l.last l.index l.initial.seen l.summary l.page l.walk l.seen
+invariant-entries l = Entered l.run.area l.run.words.now l.asked l.last l.index l.initial.seen l.summary l.page l.walk l.seen
 
 abbrev pub decreases-entries : goal.decreases-entries
 decreases-entries l = length l.page - l.walk.stop
 
 abbrev pub invariant-pages : goal.invariant-pages
-invariant-pages l = Roomless l.area l.flash l.asked l.index l.seen l.summary
+invariant-pages l = Roomless l.run.area l.run.words.now l.asked l.index l.seen l.summary
 
 abbrev pub decreases-pages : goal.decreases-pages
-decreases-pages l = l.area.pages - l.index
+decreases-pages l = l.run.area.pages - l.index

@@ -3,8 +3,8 @@ use Rattle.std.proofs.Common.{rules}
 use Rattle.writing.specs.Moving.{moves}
 use Rattle.writing.proofs.find_in.Goals as goal
 
-pub up_to-run-requires : goal.up_to-run-requires
-up_to-run-requires c = search (rules, moves)
+pub up_to-words-requires : goal.up_to-words-requires
+up_to-words-requires c = search (rules, moves)
 
 pub returns : goal.returns
 returns c = search (rules, moves)

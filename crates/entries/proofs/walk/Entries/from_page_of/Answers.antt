@@ -4,7 +4,7 @@ use Rattle.entries.specs.Pages.{from_first, from_page}
 use Rattle.entries.proofs.walk.Entries.from_page_of.Goals as goal
 
 pub returns : goal.returns
-returns c = from_page c.args.place refl refl refl c.requires c.if-area-index.false
+returns c = from_page c.args.place refl refl c.if-area-index.false
 
 pub returns-then-area-index : goal.returns-then-area-index
-returns-then-area-index c = from_first c.args.place refl refl c.first-cursor.ensures c.requires
+returns-then-area-index c = from_first c.args.place refl c.first-cursor.ensures

@@ -4,4 +4,4 @@ use Rattle.entries.specs.Ahead.{first_over}
 use Rattle.entries.proofs.walk.Entries.of.Goals as goal
 
 pub returns : goal.returns
-returns c = first_over c.requires refl refl refl c.first-cursor.ensures
+returns c = first_over refl refl c.first-cursor.ensures
