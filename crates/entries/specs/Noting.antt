@@ -1,11 +1,13 @@
 -- A map of handles noted, what is kept beside it, and laws: which handles may have been noted twice. Assumes nothing.
 use Rattle.std.specs.Prelude.{◌≡◌, List, [], ◌∷◌, Bool, not, ◌&&◌, ℕ, ◌*◌, ◌/◌, ◌%◌, ◌^◌, ◌≤◌, ◌<◌, get_or, replicate, ltb, eqb}
+use Rattle.std.proofs.Math.Path.{refl}
 use Rattle.std.proofs.Common.{sym, ◌∙◌, arith, mod-eq_of_lt}
 use Rattle.std.proofs.Math.Bool.{true, false, cond}
 use Rattle.std.proofs.Math.Pow.{pow-lt}
 use borrow.Author.Tests.{lt-ltb, le-ltb, not-true, not-false}
 use Rattle.std.proofs.Math.ListN.{set}
-use Rattle.std.specs.Int.Bits.{bit_and, bit_or}
+use Rattle.std.proofs.lemmas.List.{set-get_or}
+use Rattle.std.specs.Int.Bits.{bit_and, bit_or, or_zero_r, and_zero_r}
 use Rattle.rules.specs.Words.{is_live}
 use Rattle.rules.specs.Areas.{Entry}
 use Rattle.entries.specs.declared.doubles.Seen.{Seen}
@@ -80,9 +82,21 @@ pub unnoted : (t : Bool) (m : List ℕ) (h : ℕ) → t ≡ false → (s : Kept)
 unfolding noted
 unnoted t m h q s = rw q
 
-pub mark_map : {b : ℕ} (m : List ℕ) (h : ℕ) → b ≡ 2 ^ (h % 64) → set m (slot h) (bit_or (get_or m (slot h) 0) b) ≡ marked m true h
-unfolding marked
-mark_map m h e = rw e
+module _ {b : ℕ} (t : Bool) (m : List ℕ) (h : ℕ) (e : b ≡ cond t (2 ^ (h % 64)) 0) where
+  pub mark_map : set m (slot h) (bit_or (get_or m (slot h) 0) b) ≡ marked m t h
+  unfolding marked
+  mark_map = rw e (go t)
+    where
+      go : (t : Bool) → set m (slot h) (bit_or (get_or m (slot h) 0) (cond t (2 ^ (h % 64)) 0)) ≡ cond t (set m (slot h) (bit_or (get_or m (slot h) 0) (2 ^ (h % 64)))) m
+      go true = refl
+      go false = rw (or_zero_r (get_or m (slot h) 0)) (set-get_or m (slot h) 0)
+
+  pub mark_has : not (eqb (bit_and (get_or m (slot h) 0) b) 0) ≡ t && has m h
+  mark_has = rw e (go t)
+    where
+      go : (t : Bool) → not (eqb (bit_and (get_or m (slot h) 0) (cond t (2 ^ (h % 64)) 0)) 0) ≡ t && has m h
+      go true = refl
+      go false = rw (and_zero_r (get_or m (slot h) 0))
 
 module _ {b : Bool} (m : List ℕ) (h : ℕ) (e : b ≡ has m h) (s : Kept) where
   pub note_higher : s.top < h → record { top = h; windows = s.windows } ≡ noted m s true h
@@ -98,4 +112,4 @@ module _ {b : Bool} (m : List ℕ) (h : ℕ) (e : b ≡ has m h) (s : Kept) wher
     unfolding noted
     note_again z y = rw (le-ltb s.top h l, sym e ∙ not-false b z, y)
 
-pub ruleset notes = (one_bit, mark_map, note_higher, note_new, note_again)
+pub ruleset notes = (one_bit, mark_map, mark_has, note_higher, note_new, note_again)

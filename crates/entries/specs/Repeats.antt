@@ -19,7 +19,7 @@ use Rattle.flash.specs.Laws.{le_or_lt}
 use Rattle.rules.specs.Words.{is_live}
 use Rattle.rules.specs.Areas.{Entry, any_of, live_of}
 use Rattle.rules.specs.Laws.{and_left, and_right, nor_left, nor_right}
-use Rattle.entries.specs.Noting.{Kept, slot, is_set, has, marked, noted, is_noted, all_noted, beside}
+use Rattle.entries.specs.Noting.{Kept, slot, is_set, has, marked, noted, is_noted, all_noted}
 
 pub eq_or_not : (a b : ℕ) → (a ≡ b) ⊎ (a ≡ b → ⊥)
 eq_or_not a b = go (eqb a b) refl
@@ -273,17 +273,3 @@ module _ (t : ℕ → Bool) (w : ℕ) where
 
   pub window_once : (m : List ℕ) (s : Kept) (es : List Entry) → length m ≡ 16 → is_set (all_noted t m s es).windows w ≡ false → twice_in (both t w) es ≡ false
   window_once m s es n z = (clear m s es n z).once
-
--- ---- handles that are not looked for in a window
-module _ (m : List ℕ) (k w h : ℕ) where
-  abbrev looked : Bool
-  looked = is_live h && both (beside k) w h
-
-  pub not_dead : h ≡ 0 → looked ≡ false
-  not_dead e = rw e
-
-  pub not_aside : h ≡ k → looked ≡ false
-  not_aside e = rw (eq-eqb h k e, and-false (is_live h))
-
-  pub not_within : (h / 1024 ≡ w → ⊥) → looked ≡ false
-  not_within z = rw (ne_eqb (h / 1024) w z, and-false (beside k h), and-false (is_live h))

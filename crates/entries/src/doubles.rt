@@ -6,14 +6,15 @@
 // Every function here is proved. Of the public ones `new` asks for nothing, `note` for a handle of 16
 // bits, and `confirmed` and `drop_in` for the windows that noting all
 // live handles gives. `drop_in` and `drop_doubles` alone store; the others change no word of the flash.
-ghost use Rattle.std.specs.Prelude.{true, false, ◌&&◌, ◌≡◌, ◌/◌, ◌^◌, ◌<◌, IfSome};
+ghost use Rattle.std.specs.Prelude.{true, false, cond, not, ◌&&◌, ◌≡◌, ◌/◌, ◌^◌, ◌<◌, get_or, eqb, IfSome};
 ghost use Rattle.std.specs.Option.{ForSome, is_some};
-ghost use Rattle.std.specs.Int.Bits.{bit_or};
+ghost use Rattle.std.specs.Int.Bits.{bit_and, bit_or};
+ghost use Rattle.std.proofs.Math.ListN.{set};
 ghost use Rattle.rules.specs.Words.{is_live};
 ghost use Rattle.rules.specs.Areas.{entries, twice};
 ghost use Rattle.rules.specs.Lists.{drop_doubles};
 ghost use Rattle.area.specs.Holding.{Runs};
-ghost use Rattle.entries.specs.Noting.{has, marked, kept, noted, unseen, all_noted, any_handle, beside, blank_map, nothing};
+ghost use Rattle.entries.specs.Noting.{slot, has, marked, kept, noted, unseen, all_noted, any_handle, beside, blank_map, nothing};
 ghost use Rattle.entries.specs.Ahead.{ahead, entries_of, Sound};
 ghost use Rattle.entries.specs.Doubles.{drops, put_if};
 ghost use Rattle.entries.specs.Repeats.{twice_in, both};
@@ -39,6 +40,26 @@ fn bit(k: u32) -> u64
     1u64 << k
 }
 
+// The number that has one bit set, if that is wanted, and else none.
+fn bit_if(wanted: bool, k: u32) -> u64
+    requires { k < 64 }
+    ensures { result ≡ cond wanted (2 ^ k) 0 }
+{
+    if wanted { bit(k) } else { 0 }
+}
+
+// Sets bits of its own in the number that has a handle's bit, and tells whether one of them was set
+// before.
+fn set_bits(map: &mut [u64; 16], handle: u32, own: u64) -> bool
+    ensures before { result ≡ not (eqb (bit_and (get_or map.old (slot handle) 0) own) 0) }
+    ensures map { map.new ≡ set map.old (slot handle) (bit_or (get_or map.old (slot handle) 0) own) }
+{
+    let slot = (handle / 64 % 16) as usize;
+    let old = map[slot];
+    map[slot] = old | own;
+    old & own != 0
+}
+
 // Sets the bit of a handle, and tells whether it was set before.
 #[tactic(auto, using(crate::specs::Noting::notes))]
 fn mark(map: &mut [u64; 16], handle: u32) -> bool
@@ -46,11 +67,7 @@ fn mark(map: &mut [u64; 16], handle: u32) -> bool
     ensures before { result ≡ has map.old handle }
     ensures map { map.new ≡ marked map.old true handle }
 {
-    let slot = (handle / 64 % 16) as usize;
-    let own = bit(handle % 64);
-    let old = map[slot];
-    map[slot] = old | own;
-    old & own != 0
+    set_bits(map, handle, bit(handle % 64))
 }
 
 // The windows, with that of a handle. A walk seldom comes here: not inlined, it takes no registers
@@ -109,17 +126,16 @@ fn suspects(run: Run) -> u64
 }
 
 // Sets the bit of a live handle of a window, one handle left aside, and tells whether it was set
-// before; of another handle it sets none.
+// before; of another handle it sets none. It tests by numbers: a branch that goes another way at
+// each handle would cost more than setting a bit.
 #[tactic(auto, using(crate::specs::Noting::notes))]
 fn mark_in(map: &mut [u64; 16], window: u32, aside: u32, handle: u32) -> bool
     requires { handle < 65536 }
     ensures before { result ≡ (is_live handle && both (beside aside) window handle) && has map.old handle }
     ensures map { map.new ≡ marked map.old (is_live handle && both (beside aside) window handle) handle }
 {
-    if handle == 0 || handle == aside || handle / 1024 != window {
-        return false;
-    }
-    mark(map, handle)
+    let wanted = (handle != 0) & ((handle != aside) & (handle / 1024 == window));
+    set_bits(map, handle, bit_if(wanted, handle % 64))
 }
 
 // A handle of a window that is live twice, one handle left aside. To leave aside 0 is to leave none
