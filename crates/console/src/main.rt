@@ -3,16 +3,14 @@
 //! crate `frames`.
 //!
 //! Every function here is proved to be safe and to end; what is printed is tested. An answer that
-//! cannot be written is passed over, and input that cannot be read is at its end. Memory is asked for
-//! at the start alone, and where there is none the program ends with that error.
+//! cannot be written is passed over, and input that cannot be read is at its end.
 #![tactic(auto)]
 
 ghost use Rattle.std.specs.Prelude.{◌≤◌, length};
 ghost use Rattle.frames.specs.Frames.{bytes};
 
 use frames::{Reply, Said, State};
-use std::io;
-use std::io::{BufRead, BufReader, Read, Write};
+use std::io::{Read, Write};
 
 // So many bytes of the input are read.
 const MOST: usize = 65536;
@@ -40,6 +38,22 @@ impl<W: Write> Console<W> {
         self.tell_rest(answered.reply, answered.said);
     }
 
+    // Carries out the whole lines of a text from a place on, and gives the place behind them.
+    fn tell_lines(&mut self, text: &[u8], from: usize) -> usize
+        requires { from ≤ length text.now }
+        ensures { result ≤ length text.now }
+    {
+        let mut at = from;
+        loop {
+            let end = at + frames::line_length(&text[at..]);
+            if end == text.len() {
+                return at;
+            }
+            self.tell(&text[at..end]);
+            at = end + 1;
+        }
+    }
+
     // Prints an answer piece by piece, from the one that is in the buffer on.
     fn tell_rest(&mut self, reply: Reply, first: Said)
         requires inside { first.count ≤ length self.old.out }
@@ -56,31 +70,42 @@ impl<W: Write> Console<W> {
     }
 }
 
-// Reads and answers line by line, until the input ends; so many bytes have no more lines than that and
-// a last one, which may be without an end.
-fn run(from: &mut impl BufRead, line: &mut Vec<u8>, console: &mut Console<impl Write>) {
-    for _ in 0..=MOST {
-        line.clear();
-        let _ = from.read_until(b'\n', line);
-        let end = frames::line_length(line);
-        if !line.is_empty() {
-            console.tell(&line[..end]);
-        }
-        if end == line.len() {
-            return;
-        }
+// Reads what has come of the input, and gives the number of its bytes: 0 where the input ends, cannot
+// be read, or has no room.
+fn read_into(from: &mut impl Read, text: &mut [u8]) -> usize
+    ensures { result ≤ length text.old }
+{
+    match from.read(text) {
+        Ok(count) => count,
+        Err(_) => 0,
     }
 }
 
-fn main(rt: HostRuntime) -> io::Result<()> {
-    let mut from = BufReader::new(rt.alloc(), rt.stdin().take(MOST as u64))?;
-    let mut line = Vec::with_capacity(rt.alloc(), MOST)?;
+// Reads and answers line by line, until the input ends or the buffer for it is full: each turn but the
+// last reads a byte or more. What is left is a line without an end.
+fn run(from: &mut impl Read, text: &mut [u8], console: &mut Console<impl Write>) {
+    let mut at = 0;
+    let mut filled = 0;
+    for _ in 0..text.len() {
+        let count = read_into(from, &mut text[filled..]);
+        if count == 0 {
+            break;
+        }
+        filled += count;
+        at = console.tell_lines(&text[..filled], at);
+    }
+    if at < filled {
+        console.tell(&text[at..filled]);
+    }
+}
+
+fn main(rt: HostRuntime) {
+    let mut text = [0; MOST];
     let mut console = Console {
         to: rt.stdout(),
         state: frames::start(),
         flash: [flash::BLANK; WORDS],
         out: [0; PIECE],
     };
-    run(&mut from, &mut line, &mut console);
-    Ok(())
+    run(&mut rt.stdin(), &mut text, &mut console);
 }
