@@ -48,6 +48,7 @@ impl<'a> Run<'a> {
     }
 
     // What R is.
+    #[inline(always)]
     pub fn recovery(self) -> Recovery
         ensures { result ≡ recovery self.entry.area self.entry.words.now }
     {

@@ -82,6 +82,7 @@ fn copy_back(held: &mut Held, index: usize, count: usize)
 }
 
 // A page made anew of so many of R's words from word 2, and R freed.
+#[inline(always)]
 pub fn restore(held: &mut Held, index: usize, count: usize)
     requires { (index < held.old.area.pages) × (count + 2 ≤ held.old.area.words) }
     ensures { Runs (restore held.old.area index (take count (drop 2 (page held.old.area held.old.run.now (R held.old.area))))) held.old held.new }

@@ -1,10 +1,10 @@
 -- What the walks that look for a handle live twice have come to: the one over all windows, the one over a window, and the windows one behind
 -- the other. Laws. Assumes nothing.
-use Rattle.std.specs.Prelude.{◌≡◌, List, [], ◌∷◌, Bool, not, ◌&&◌, ◌||◌, ℕ, ◌+◌, ◌/◌, ◌%◌, ◌^◌, ◌≤◌, ◌<◌, length, eqb}
+use Rattle.std.specs.Prelude.{◌≡◌, List, [], ◌∷◌, Bool, not, ◌&&◌, ◌||◌, ℕ, ◌+◌, ◌*◌, ◌/◌, ◌%◌, ◌^◌, ◌≤◌, ◌<◌, length, eqb}
 use Rattle.std.proofs.Math.Path.{refl, sym}
-use Rattle.std.proofs.Common.{ap, ◌∙◌, ⊎_elim, arith, mod-lt, pow_mono, eqb-true, eq-eqb, ne_eqb, Fits}
+use Rattle.std.proofs.Common.{ap, ◌∙◌, ⊎_elim, arith, mod-lt, pow_mono, pow_pos, eqb-true, eq-eqb, ne_eqb, Fits}
 use Rattle.std.proofs.Math.Bool.{true, false, and-true, and-false}
-use Rattle.std.proofs.Math.Nat.{div-eq_of_lt}
+use Rattle.std.proofs.Math.Nat.{div-eq_of_lt, lt-mul-div-succ}
 use Rattle.std.proofs.lemmas.List.{length-replicate, get_or-replicate}
 use Rattle.std.specs.Int.Bits.{bit_and, and_zero_l}
 use Rattle.std.specs.Int.{w64}
@@ -235,23 +235,34 @@ windowed_below x l = record { none = λ w h. x.none w (omega arith) }
 pub windowed_aside : {es : List Entry} {i : ℕ} (k : ℕ) → Windowed (beside 0) es i → Windowed (beside k) es i
 windowed_aside {es} k x = record { none = λ w h. narrow (both (beside 0) w) (both (beside k) w) (λ u l q. rw (l, and_right (beside k u) (in_window w u) q)) es (x.none w h) }
 
-pub windowed_end : {t : ℕ → Bool} {es : List Entry} {i n : ℕ} → Windowed t es i → 64 ≤ i → n ≡ (all_noted any_handle blank_map nothing es).windows → Fits w64 n → false ≡ twice_in t es
-windowed_end {t} {es} {i} {n} x l e g = rw (no_window t es all)
-  where
-    high : (w : ℕ) → 64 ≤ w → is_set n w ≡ false
-    high w y =
-        let p = pow_mono {i = 64} {j = w} y in
-        let z : n / 2 ^ w ≡ 0 = div-eq_of_lt (omega (arith, g.fits)) in
-        rw (set_by n w, z)
+-- no window from i on has its bit set
+module _ {t : ℕ → Bool} {es : List Entry} {i n : ℕ} (x : Windowed t es i) where
+  pub windowed_past : n / 2 ^ i ≡ 0 → n ≡ (all_noted any_handle blank_map nothing es).windows → false ≡ twice_in t es
+  windowed_past q e = rw (no_window t es all)
+    where
+      below : n < 2 ^ i
+      below = let l : n < 2 ^ i * (0 + 1) = rw q at (lt-mul-div-succ n {b = 2 ^ i} (pow_pos i)) in omega arith
 
-    all : (w : ℕ) → twice_in (both t w) es ≡ false
-    all w =
-        ⊎_elim
-        (λ (y : 64 ≤ w). unmet es t w (rw (← e) (high w y)))
-        (λ (y : w < 64). x.none w (omega arith))
-        (le_or_lt 64 w)
+      high : (w : ℕ) → i ≤ w → is_set n w ≡ false
+      high w y =
+          let p = pow_mono {i = i} {j = w} y in
+          let l = below in
+          let z : n / 2 ^ w ≡ 0 = div-eq_of_lt (omega arith) in
+          rw (set_by n w, z)
 
-pub ruleset windows = (window_clear, windowed_start, windowed_on, windowed_found, windowed_below, windowed_end)
+      all : (w : ℕ) → twice_in (both t w) es ≡ false
+      all w =
+          ⊎_elim
+          (λ (y : i ≤ w). unmet es t w (rw (← e) (high w y)))
+          (λ (y : w < i). x.none w (omega arith))
+          (le_or_lt i w)
+
+  pub windowed_end : 64 ≤ i → n ≡ (all_noted any_handle blank_map nothing es).windows → Fits w64 n → false ≡ twice_in t es
+  windowed_end l e g =
+      let p = pow_mono {i = 64} {j = i} l in
+      windowed_past (div-eq_of_lt (omega (arith, g.fits))) e
+
+pub ruleset windows = (window_clear, windowed_start, windowed_on, windowed_found, windowed_below, windowed_past, windowed_end)
 
 -- ---- no handle left aside: entries are live under none that is 0
 pub live_twice : (es : List Entry) → twice_in (beside 0) es ≡ twice es

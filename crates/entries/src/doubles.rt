@@ -25,10 +25,10 @@ use area::{Held, Run};
 
 // What was seen of handles: a map of those noted, the highest of them, and the windows of 1,024
 // handles in which one may have been noted twice, one bit for each.
-#[derive(Drop)]
+#[derive(Clone, Copy)]
 pub struct Seen {
     map: [u64; 16],
-    top: u32,
+    pub top: u32,
     pub windows: u64,
 }
 
@@ -168,8 +168,8 @@ fn repeated_if(run: Run, windows: u64, window: u32, aside: u32) -> Option<u32>
 }
 
 // A handle that is live twice, one handle left aside. It is looked for in the windows in which there
-// may be one, from a window on below which there is none. Below the window of the handle that is
-// found there is none either.
+// may be one, from a window on below which there is none, up to the last of these. Below the window of
+// the handle that is found there is none either.
 #[tactic(auto, using(crate::specs::Sweeping::windows))]
 fn doubled(run: Run, windows: u64, start: u32, aside: u32) -> Option<u32>
     requires { (windows ≡ (all_noted any_handle blank_map nothing (entries_of run)).windows) × Windowed (beside aside) (entries_of run) start }
@@ -177,6 +177,9 @@ fn doubled(run: Run, windows: u64, start: u32, aside: u32) -> Option<u32>
     ensures below { IfSome result (λ h. Windowed (beside aside) (entries_of run.entry) (h / 1024)) }
 {
     for window in start..64 {
+        if windows >> window == 0 {
+            return None;
+        }
         let handle = repeated_if(run, windows, window, aside);
         if handle.is_some() {
             return handle;
@@ -234,6 +237,7 @@ fn drop_each(held: &mut Held, only: Option<u32>)
 
 // The same, by the windows in which a handle may be live twice. A second handle is looked for from
 // the window of the first on.
+#[inline(always)]
 pub fn drop_in(held: &mut Held, windows: u64)
     requires { windows ≡ (all_noted any_handle blank_map nothing (entries held.old.area held.old.run.now)).windows }
     ensures { Runs (drop_doubles held.old.area held.old.run.now) held.old held.new }

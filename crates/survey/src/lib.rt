@@ -225,13 +225,13 @@ fn pass_pages(run: Run, asked: Asked, seen: &mut Seen) -> Sought
     }
 }
 
-// The checks that a look makes behind that of the geometry: DAMAGED; and, if R is free and all pages
-// are sealed, what is found for a handle and for an entry of so many words, else nothing.
-#[tactic(auto, using(crate::specs::Verdict::looks))]
-fn look_at(run: Run, handle: u32, needed: usize) -> Result<Option<Sight>, Refusal>
+// The checks that every request but a format begins with: GEOMETRY, DAMAGED; and, if R is free and
+// all pages are sealed, what is found for a handle and for an entry of so many words, else nothing.
+pub fn look(flash: &[u32], area: Area, handle: u32, needed: usize) -> Result<Option<Sight>, Refusal>
     requires { needed ≤ longest }
-    ensures { result ≡ looked run.entry.area run.entry.words.now handle needed }
+    ensures { result ≡ looked area flash.now handle needed }
 {
+    let run = Run::of(flash, area)?;
     let recovery = run.recovery();
     if is_damage(recovery) {
         return Err(Refusal::Damaged);
@@ -266,25 +266,16 @@ fn look_at(run: Run, handle: u32, needed: usize) -> Result<Option<Sight>, Refusa
     }))
 }
 
-// The checks that every request but a format begins with: GEOMETRY, DAMAGED; and, if R is free and
-// all pages are sealed, what is found for a handle and for an entry of so many words, else nothing.
-pub fn look(flash: &[u32], area: Area, handle: u32, needed: usize) -> Result<Option<Sight>, Refusal>
-    requires { needed ≤ longest }
-    ensures { result ≡ looked area flash.now handle needed }
-{
-    look_at(Run::of(flash, area)?, handle, needed)
-}
-
 // The checks that write, read, delete and search begin with: GEOMETRY, DAMAGED, UNREADY; and, if all
 // are passed, what is found for a handle and for an entry of so many words.
 pub fn survey(flash: &[u32], area: Area, handle: u32, needed: usize) -> Result<View, Refusal>
     requires { needed ≤ longest }
     ensures { result ≡ surveyed area flash.now handle needed }
 {
-    let run = Run::of(flash, area)?;
-    let Some(sight) = look_at(run, handle, needed)? else {
+    let Some(sight) = look(flash, area, handle, needed)? else {
         return Err(Refusal::Unready);
     };
+    let run = Run { words: flash, area };
     if confirmed(run, sight.windows) {
         return Err(Refusal::Unready);
     }

@@ -44,6 +44,7 @@ fn put_entry(flash: &mut [u32], at: usize, handle: u32, data: &[u32], power: Pow
 }
 
 // An entry behind those of a page, where its walk stops, and an old one to its bare length.
+#[inline(always)]
 fn append(held: &mut Held, index: usize, end: usize, old: Option<Found>, handle: u32, data: &[u32])
     requires { (index < held.old.area.pages) × (end ≡ stop (page held.old.area held.old.run.now index)) × (data_words old ≤ 262144) × (handle < 65536) × (length «data».now ≤ 32) }
     ensures { Runs (append_over held.old.area handle «data».now index old held.old.run.now) held.old held.new }
