@@ -2,30 +2,29 @@
 use crate::image::Image;
 use crate::show::Asked;
 use rules::Area;
-use std::alloc::{AllocError, Global};
 use std::io::Write;
 
 // The image that is crafted, and where the lines are printed.
 #[derive(Drop)]
-pub struct Bench<W> {
-    alloc: Global,
+pub struct Bench<'a, W> {
     to: W,
-    pub image: Image,
+    pub image: Image<'a>,
 }
 
-impl<W: Drop> Bench<W> {
-    // A bench on which no flash is.
-    pub fn new(alloc: Global, to: W) -> Result<Bench<W>, AllocError> {
-        let image = Image::blank(alloc, Area { pages: 0, words: 0 }, 0)?;
-        Ok(Bench { alloc, to, image })
+impl<'a, W: Drop> Bench<'a, W> {
+    // A bench on which no flash is, with space for the largest.
+    pub fn new(to: W, space: &'a mut [u32]) -> Bench<'a, W> {
+        Bench {
+            to,
+            image: Image::new(space),
+        }
     }
 }
 
-impl<W: Write> Bench<W> {
+impl<W: Write> Bench<'_, W> {
     // Takes a blank run of an area's words and so many more.
-    pub fn take(&mut self, area: Area, more: usize) -> Result<(), AllocError> {
-        self.image = Image::blank(self.alloc, area, more)?;
-        Ok(())
+    pub fn take(&mut self, area: Area, more: usize) {
+        self.image.blank(area, more);
     }
 
     // Writes a line that says what the next ones are about.
@@ -92,7 +91,7 @@ impl<W: Write> Bench<W> {
     pub fn first(&mut self, length: usize, area: Area) {
         let Area { pages, words } = area;
         let _ = write!(self.to, "run of {length}, N {pages} P {words}, ");
-        if let Some(run) = self.image.run.as_slice().get(..length) {
+        if let Some(run) = self.image.run().get(..length) {
             write_both(&mut self.to, Asked { run, area });
         }
     }

@@ -1,7 +1,6 @@
 // GEOMETRY: numbers of pages, sizes of pages and lengths of the run that do not fit.
 use crate::bench::Bench;
 use rules::Area;
-use std::alloc::AllocError;
 use std::io::Write;
 
 // The largest number of pages or words that can be asked for.
@@ -99,22 +98,21 @@ fn sizes(bench: &mut Bench<impl Write>) {
 
 // The sample of each size, on a run of four pages and one word; other sizes, on a blank run; and 256
 // pages of 64 words on a run of their length.
-pub fn all(bench: &mut Bench<impl Write>) -> Result<(), AllocError> {
+pub fn all(bench: &mut Bench<impl Write>) {
     bench.title("== geometry");
     for (words, wrapping) in [
         (64, 0x0400_0000_0000_0003),
         (256, 0x0100_0000_0000_0003),
         (1024, 0x0040_0000_0000_0003),
     ] {
-        bench.take(Area { pages: 3, words }, 1)?;
+        bench.take(Area { pages: 3, words }, 1);
         sample(bench, wrapping);
     }
     let most = Area {
         pages: 256,
         words: 64,
     };
-    bench.take(most, 0)?;
+    bench.take(most, 0);
     sizes(bench);
     bench.first(16448, most);
-    Ok(())
 }

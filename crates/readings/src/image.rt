@@ -2,7 +2,6 @@
 // clear them. A word outside the run is put nowhere.
 use crate::show::Asked;
 use rules::Area;
-use std::alloc::{AllocError, Global};
 
 // The words of document 01, apart from those that the manager is compiled with: a blank word,
 pub const BLANK: u32 = 0xFFFF_FFFF;
@@ -11,32 +10,56 @@ pub const SEAL: u32 = 0x7FFF_FFFF;
 // and a page's word 0.
 pub const FIRST: u32 = 0x1010_0408;
 
+// The words of the largest image: 255 pages and R, of 1,024 words each.
+pub const LARGEST: usize = 262144;
+
 // An entry that is crafted: the handle, the number of data words, and the first of these, from which
 // they count up.
 pub type Entry = (u16, u8, u32);
 
-// A run of words, and the area that it is crafted as.
+// A run of words, the first so many of a space that is lent, and the area that it is crafted as.
 #[derive(Drop)]
-pub struct Image {
-    pub run: Vec<u32>,
+pub struct Image<'a> {
+    space: &'a mut [u32],
+    length: usize,
     pub area: Area,
 }
 
-impl Image {
-    // A blank run of an area's words, with R, and so many more.
-    pub fn blank(alloc: Global, area: Area, more: usize) -> Result<Image, AllocError> {
+impl<'a> Image<'a> {
+    // An empty run, at the beginning of a space.
+    pub fn new(space: &'a mut [u32]) -> Image<'a> {
+        Image {
+            space,
+            length: 0,
+            area: Area { pages: 0, words: 0 },
+        }
+    }
+
+    // Makes the run a blank one of an area's words, with R, and so many more. It ends with the space
+    // at the latest, but none here is longer.
+    pub fn blank(&mut self, area: Area, more: usize) {
         let pages = area.pages.saturating_add(1);
-        let length = pages.saturating_mul(area.words).saturating_add(more);
-        Ok(Image {
-            run: vec![in alloc; BLANK; length]?,
-            area,
-        })
+        self.length = pages.saturating_mul(area.words).saturating_add(more);
+        self.area = area;
+        self.run_mut().fill(BLANK);
+    }
+
+    // The run.
+    pub fn run(&self) -> &[u32] {
+        let length = self.length.min(self.space.len());
+        &self.space[..length]
+    }
+
+    // The run, to be written.
+    fn run_mut(&mut self) -> &mut [u32] {
+        let length = self.length.min(self.space.len());
+        &mut self.space[..length]
     }
 
     // The run as the area, to be asked.
     pub fn asked(&self) -> Asked<'_> {
         Asked {
-            run: &self.run,
+            run: self.run(),
             area: self.area,
         }
     }
@@ -70,7 +93,7 @@ impl Image {
 
     // Puts a word at a place, and answers the place behind it.
     fn put(&mut self, at: usize, word: u32) -> usize {
-        if let Some(old) = self.run.get_mut(at) {
+        if let Some(old) = self.run_mut().get_mut(at) {
             *old = word;
         }
         at.saturating_add(1)
@@ -96,7 +119,7 @@ impl Image {
     // Puts a word at a page's word, and answers the one that stood there.
     pub fn exchange(&mut self, page: u8, at: usize, word: u32) -> u32 {
         let place = self.place(page, at);
-        let old = flash::word(&self.run, place);
+        let old = flash::word(self.run(), place);
         self.put(place, word);
         old
     }
@@ -120,16 +143,17 @@ impl Image {
 
     // Makes all words of a page the same.
     pub fn fill_page(&mut self, page: u8, word: u32) {
+        let words = self.area.words;
         let from = self.place(page, 0);
-        let end = self.place(page, self.area.words);
-        if let Some(words) = self.run.as_mut_slice().get_mut(from..end) {
+        let end = self.place(page, words);
+        if let Some(words) = self.run_mut().get_mut(from..end) {
             words.fill(word);
         }
     }
 
     // Makes the run an area of sealed pages without entries, with R free.
     pub fn format(&mut self) {
-        self.run.fill(BLANK);
+        self.run_mut().fill(BLANK);
         for page in 0..self.count() {
             self.set(page, 0, FIRST);
             self.set(page, 1, self.second(page));

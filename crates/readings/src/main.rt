@@ -17,10 +17,11 @@ mod unready;
 mod worked;
 
 use bench::Bench;
-use std::alloc::AllocError;
 
-fn main(rt: HostRuntime) -> Result<(), AllocError> {
-    let mut bench = Bench::new(rt.alloc(), rt.stdout())?;
-    areas::all(&mut bench)?;
-    geometry::all(&mut bench)
+// All images are crafted in one space of fixed size. There is no heap.
+fn main(rt: HostRuntime) {
+    let mut space = [image::BLANK; image::LARGEST];
+    let mut bench = Bench::new(rt.stdout(), &mut space);
+    areas::all(&mut bench);
+    geometry::all(&mut bench);
 }
