@@ -13,6 +13,7 @@ ghost use Rattle.std.proofs.Math.ListN.{set};
 ghost use Rattle.rules.specs.Words.{is_live};
 ghost use Rattle.rules.specs.Areas.{entries, twice};
 ghost use Rattle.rules.specs.Lists.{drop_doubles};
+ghost use Rattle.rules.specs.Places.{Right};
 ghost use Rattle.area.specs.Holding.{Runs};
 ghost use Rattle.entries.specs.Noting.{slot, has, marked, kept, noted, unseen, all_noted, any_handle, beside, blank_map, nothing};
 ghost use Rattle.entries.specs.Ahead.{ahead, entries_of, Sound};
@@ -22,6 +23,7 @@ ghost use Rattle.entries.specs.Sweeping.{Windowed};
 
 use crate::walk::{Cursor, Entries, Header};
 use area::{Held, Run};
+use rules::Area;
 
 // What was seen of handles: a map of those noted, the highest of them, and the windows of 1,024
 // handles in which one may have been noted twice, one bit for each.
@@ -139,12 +141,16 @@ fn mark_in(map: &mut [u64; 16], window: u32, aside: u32, handle: u32) -> bool
 }
 
 // A handle of a window that is live twice, one handle left aside. To leave aside 0 is to leave none
-// aside, since no live entry has it.
+// aside, since no live entry has it. Not inlined, the walk has all registers for itself wherever it is
+// called from; it takes a run by its parts, since a `Run` would be handed over in memory.
+#[inline(never)]
 #[tactic(auto, using(crate::specs::Sweeping::sweeps))]
-fn repeated(run: Run, window: u32, aside: u32) -> Option<u32>
-    ensures twice { is_some result ≡ twice_in (both (beside aside) window) (entries_of run.entry) }
+fn repeated(words: &[u32], area: Area, window: u32, aside: u32) -> Option<u32>
+    requires { Right area words.now }
+    ensures twice { is_some result ≡ twice_in (both (beside aside) window) (entries area words.now) }
     ensures within { IfSome result (λ h. h / 1024 ≡ window) }
 {
+    let run = Run { words, area };
     let mut map = [0u64; 16];
     for entry in Entries::of(run) {
         if mark_in(&mut map, window, aside, entry.handle) {
@@ -164,7 +170,7 @@ fn repeated_if(run: Run, windows: u64, window: u32, aside: u32) -> Option<u32>
     if windows & bit(window) == 0 {
         return None;
     }
-    repeated(run, window, aside)
+    repeated(run.words, run.area, window, aside)
 }
 
 // A handle that is live twice, one handle left aside. It is looked for in the windows in which there
