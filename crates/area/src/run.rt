@@ -47,7 +47,7 @@ impl<'a> Run<'a> {
         pages::kind_of(self.page(index), self.area.pages as u32, index as u32)
     }
 
-    // What R is.
+    // What R is. Inlined, so that no run is handed over in memory.
     #[inline(always)]
     pub fn recovery(self) -> Recovery
         ensures { result ≡ recovery self.entry.area self.entry.words.now }

@@ -81,7 +81,8 @@ fn copy_back(held: &mut Held, index: usize, count: usize)
     held.power = stores::copy_words(held.run, from, to, count, held.power);
 }
 
-// A page made anew of so many of R's words from word 2, and R freed.
+// A page made anew of so many of R's words from word 2, and R freed. Inlined, so that no run is handed
+// over in memory.
 #[inline(always)]
 pub fn restore(held: &mut Held, index: usize, count: usize)
     requires { (index < held.old.area.pages) × (count + 2 ≤ held.old.area.words) }

@@ -242,7 +242,7 @@ fn drop_each(held: &mut Held, only: Option<u32>)
 }
 
 // The same, by the windows in which a handle may be live twice. A second handle is looked for from
-// the window of the first on.
+// the window of the first on. Inlined, so that no run is handed over in memory.
 #[inline(always)]
 pub fn drop_in(held: &mut Held, windows: u64)
     requires { windows ≡ (all_noted any_handle blank_map nothing (entries held.old.area held.old.run.now)).windows }

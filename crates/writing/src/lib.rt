@@ -43,7 +43,8 @@ fn put_entry(flash: &mut [u32], at: usize, handle: u32, data: &[u32], power: Pow
     flash::store(flash, at + 1 + data.len(), SEAL, b)
 }
 
-// An entry behind those of a page, where its walk stops, and an old one to its bare length.
+// An entry behind those of a page, where its walk stops, and an old one to its bare length. Inlined,
+// so that no run is handed over in memory.
 #[inline(always)]
 fn append(held: &mut Held, index: usize, end: usize, old: Option<Found>, handle: u32, data: &[u32])
     requires { (index < held.old.area.pages) × (end ≡ stop (page held.old.area held.old.run.now index)) × (data_words old ≤ 262144) × (handle < 65536) × (length «data».now ≤ 32) }
