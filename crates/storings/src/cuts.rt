@@ -7,7 +7,6 @@ use crate::command::{FULL, Request};
 use crate::digest::Digest;
 use crate::lent::Lent;
 use crate::outcome::Outcome;
-use std::alloc::{AllocError, Global};
 use std::io::Write;
 
 // No more words than this are copied.
@@ -17,14 +16,11 @@ const COPIED: usize = 4096;
 const POWERS: u32 = 4096;
 
 // Cuts the recovery of what is lent everywhere, on copies, and answers what that folds up to.
-fn recoveries(alloc: Global, lent: &Lent<'_>) -> Result<Digest, AllocError> {
+fn recoveries(lent: &Lent<'_>) -> Digest {
+    let mut space = [0; COPIED];
     let mut digest = Digest::NONE;
     for power in 0..POWERS {
-        let mut words = lent.copied(alloc)?;
-        let mut copy = Lent {
-            run: &mut words,
-            area: lent.area,
-        };
+        let mut copy = lent.copied(&mut space);
         let cut = copy.make(Request::Recover, power);
         digest = cut.fold(digest, copy.run);
         let whole = copy.make(Request::Recover, FULL);
@@ -33,13 +29,12 @@ fn recoveries(alloc: Global, lent: &Lent<'_>) -> Result<Digest, AllocError> {
             break;
         }
     }
-    Ok(digest)
+    digest
 }
 
 // A request of which every cut is made, and where the lines are written.
 #[derive(Drop)]
 pub struct Cuts<'a, W> {
-    pub alloc: Global,
     pub to: &'a mut W,
     pub request: Request<'a>,
 }
@@ -47,43 +42,38 @@ pub struct Cuts<'a, W> {
 impl<W: Write> Cuts<'_, W> {
     // Makes the request with power for 0 stores, for 1, and so on to the first that is not cut. A mark
     // says that so many words are not copied.
-    pub fn every(&mut self, lent: &Lent<'_>) -> Result<(), AllocError> {
+    pub fn every(&mut self, lent: &Lent<'_>) {
         if COPIED < lent.run.len() {
             let _ = self.to.write_all(b"!\n");
-            return Ok(());
+            return;
         }
         let _ = self.to.write_all(b"\n");
         for power in 0..POWERS {
-            if !self.once(lent, power)?.is_cut() {
+            if !self.once(lent, power).is_cut() {
                 break;
             }
         }
-        Ok(())
     }
 
     // Makes the request with so much power on a copy of what is lent, recovers, and makes it again
     // with power for all of it. Writes the line, and answers what the first came to.
-    fn once(&mut self, lent: &Lent<'_>, power: u32) -> Result<Outcome, AllocError> {
-        let mut words = lent.copied(self.alloc)?;
-        let mut copy = Lent {
-            run: &mut words,
-            area: lent.area,
-        };
+    fn once(&mut self, lent: &Lent<'_>, power: u32) -> Outcome {
+        let mut space = [0; COPIED];
+        let mut copy = lent.copied(&mut space);
         let outcome = copy.make(self.request, power);
         let _ = write!(self.to, "{outcome}{};", copy.digest());
-        self.recovered(&mut copy)?;
+        self.recovered(&mut copy);
         let again = copy.make(self.request, FULL);
         let _ = writeln!(self.to, ";{again}{}", copy.digest());
-        Ok(outcome)
+        outcome
     }
 
     // Recovers what is lent, and writes what that and its cuts come to, and the map.
-    fn recovered(&mut self, lent: &mut Lent<'_>) -> Result<(), AllocError> {
-        let cuts = recoveries(self.alloc, lent)?;
+    fn recovered(&mut self, lent: &mut Lent<'_>) {
+        let cuts = recoveries(lent);
         let outcome = lent.make(Request::Recover, FULL);
         let digest = lent.digest();
         let map = lent.map(0, 0);
         let _ = write!(self.to, "{outcome}{digest}{cuts};{map}");
-        Ok(())
     }
 }

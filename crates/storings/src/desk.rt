@@ -3,45 +3,39 @@ use crate::command::Command;
 use crate::cuts::Cuts;
 use crate::lent::Lent;
 use crate::line::{Line, Loan};
+use arrayvec::ArrayVec;
 use rules::Area;
-use std::alloc::{AllocError, Global};
 use std::io::Write;
-
-// There is space for the largest area and a word more.
-const SPACE: usize = 262145;
 
 // Where a script is taken. What is lent stays from line to line.
 #[derive(Drop)]
-pub struct Desk<W> {
-    alloc: Global,
+pub struct Desk<'a, W> {
     to: W,
-    space: Vec<u32>,
+    space: &'a mut [u32],
     loan: Loan,
 }
 
-impl<W: Write + Drop> Desk<W> {
-    // A desk with blank space, of which nothing is lent.
-    pub fn new(alloc: Global, to: W) -> Result<Desk<W>, AllocError> {
-        Ok(Desk {
-            alloc,
+impl<'a, W: Write + Drop> Desk<'a, W> {
+    // A desk with so much space, of which nothing is lent.
+    pub fn new(to: W, space: &'a mut [u32]) -> Desk<'a, W> {
+        Desk {
             to,
-            space: vec![in alloc; flash::BLANK; SPACE]?,
+            space,
             loan: Loan {
                 area: Area { pages: 0, words: 0 },
                 length: 0,
             },
-        })
+        }
     }
 
     // Takes the whole script. Of a last line without an end nothing is made.
-    pub fn script(&mut self, text: &[u8]) -> Result<(), AllocError> {
+    pub fn script(&mut self, text: &[u8]) {
         for line in text.split_inclusive(|&x| x == b'\n') {
             match line.strip_suffix(b"\n") {
-                Some(line) => self.line(line)?,
+                Some(line) => self.line(line),
                 None => self.say(line),
             }
         }
-        Ok(())
     }
 
     // Writes a text as it is.
@@ -50,39 +44,38 @@ impl<W: Write + Drop> Desk<W> {
     }
 
     // Takes a line: one that has a `=` is said, of any other the command is made.
-    fn line(&mut self, text: &[u8]) -> Result<(), AllocError> {
+    fn line(&mut self, text: &[u8]) {
         self.say(text);
         if text.contains(&b'=') {
             self.say(b"\n");
-            return Ok(());
+            return;
         }
-        let line = Line::read(self.alloc, text)?;
+        let mut numbers = ArrayVec::new();
+        let line = Line::read(text, &mut numbers);
         if let Some(loan) = line.loan() {
             self.loan = loan;
         }
-        self.make(&line)
+        self.make(&line);
     }
 
     // Makes a line's command on what is lent. A mark says that there is too little space.
-    fn make(&mut self, line: &Line) -> Result<(), AllocError> {
+    fn make(&mut self, line: &Line<'_>) {
         let Loan { area, length } = self.loan;
-        let Some(run) = self.space.as_mut_slice().get_mut(..length) else {
+        let Some(run) = self.space.get_mut(..length) else {
             self.say(b"!\n");
-            return Ok(());
+            return;
         };
         let mut lent = Lent { run, area };
         match line.every() {
             Some(request) => {
                 let mut cuts = Cuts {
-                    alloc: self.alloc,
                     to: &mut self.to,
                     request,
                 };
-                cuts.every(&lent)?;
+                cuts.every(&lent);
             }
             None => single(&mut self.to, &mut lent, line.command(), line.power),
         }
-        Ok(())
     }
 }
 

@@ -4,7 +4,6 @@ use crate::digest::Digest;
 use crate::outcome::Outcome;
 use crate::show::{Entry, Map, Words};
 use rules::Area;
-use std::alloc::{AllocError, Global};
 
 // Words that are lent as an area.
 #[derive(Drop)]
@@ -44,9 +43,15 @@ impl Lent<'_> {
         }
     }
 
-    // A copy of the words.
-    pub fn copied(&self, alloc: Global) -> Result<Vec<u32>, AllocError> {
-        self.run.to_vec(alloc)
+    // A copy in a space, of as many of the words as it has room for.
+    pub fn copied<'a>(&self, space: &'a mut [u32]) -> Lent<'a> {
+        let length = self.run.len().min(space.len());
+        let run = &mut space[..length];
+        run.copy_from_slice(&self.run[..length]);
+        Lent {
+            run,
+            area: self.area,
+        }
     }
 
     // The digest of the words.

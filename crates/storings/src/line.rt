@@ -1,7 +1,7 @@
 // A line of the script.
 use crate::command::{Command, FULL, Request};
+use arrayvec::ArrayVec;
 use rules::Area;
-use std::alloc::{AllocError, Global};
 
 // So many numbers of a line count.
 const MOST: usize = 2048;
@@ -75,30 +75,30 @@ pub struct Loan {
 
 // A line's name, whether every cut is asked for, the power, and the numbers.
 #[derive(Drop)]
-pub struct Line {
+pub struct Line<'a> {
     name: Name,
     every: bool,
     pub power: u32,
-    numbers: Vec<u32>,
+    numbers: &'a mut ArrayVec<u32, MOST>,
 }
 
-impl Line {
-    // Reads a line's tokens, which stand between blanks.
-    pub fn read(alloc: Global, text: &[u8]) -> Result<Line, AllocError> {
+impl<'a> Line<'a> {
+    // Reads a line's tokens, which stand between blanks, and puts its numbers where there are none.
+    pub fn read(text: &[u8], numbers: &'a mut ArrayVec<u32, MOST>) -> Line<'a> {
         let mut line = Line {
             name: Name::Delete,
             every: false,
             power: FULL,
-            numbers: Vec::new(alloc),
+            numbers,
         };
         for token in text.split(|&x| x == b' ') {
-            line.token(token)?;
+            line.token(token);
         }
-        Ok(line)
+        line
     }
 
     // Takes a token byte by byte: its digits are one number, wherever they stand.
-    fn token(&mut self, token: &[u8]) -> Result<(), AllocError> {
+    fn token(&mut self, token: &[u8]) {
         let mut kind = Kind::Begun;
         let mut value = 0;
         for &x in token {
@@ -116,7 +116,7 @@ impl Line {
                 kind = Kind::of_sign(x);
             }
         }
-        self.end(kind, value)
+        self.end(kind, value);
     }
 
     // Takes the first letter of a name, or of the word that asks for every cut.
@@ -129,33 +129,28 @@ impl Line {
     }
 
     // Takes a whole token with what its digits are.
-    fn end(&mut self, kind: Kind, value: u32) -> Result<(), AllocError> {
+    fn end(&mut self, kind: Kind, value: u32) {
         match kind {
-            Kind::Number => self.push(value)?,
-            Kind::CountUp => self.push_more(value, 1)?,
-            Kind::Repeat => self.push_more(value, 0)?,
+            Kind::Number => self.push(value),
+            Kind::CountUp => self.push_more(value, 1),
+            Kind::Repeat => self.push_more(value, 0),
             Kind::Power => self.power = value,
             Kind::Begun | Kind::Name | Kind::Other => {}
         }
-        Ok(())
     }
 
     // Puts a number behind the others, if there is room.
-    fn push(&mut self, number: u32) -> Result<(), AllocError> {
-        if self.numbers.len() < MOST {
-            self.numbers.push(number)?;
-        }
-        Ok(())
+    fn push(&mut self, number: u32) {
+        let _ = self.numbers.try_push(number);
     }
 
     // Puts so many numbers behind the others, each a step more than the one before.
-    fn push_more(&mut self, count: u32, step: u32) -> Result<(), AllocError> {
+    fn push_more(&mut self, count: u32, step: u32) {
         let mut number = self.numbers.last().copied().unwrap_or(0);
         for _ in 0..count {
             number = number.wrapping_add(step);
-            self.push(number)?;
+            self.push(number);
         }
-        Ok(())
     }
 
     // A number by its index, 0 if there is none.

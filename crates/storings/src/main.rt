@@ -22,9 +22,10 @@
 //!
 //! Only a name's first letter counts. @K is the power of a request, FFFFFFFF if nothing is said. +N
 //! stands for N words that count up from the one before, *N for N more of that one. Where the program
-//! has no space for so many words, nothing is made, and it prints a `!`. Where memory runs out it ends
-//! with that error.
+//! has no space for so many words, nothing is made, and it prints a `!`.
 #![tactic(auto)]
+
+ghost use Rattle.std.specs.Prelude.{◌≤◌, length};
 
 mod command;
 mod cuts;
@@ -36,16 +37,32 @@ mod outcome;
 mod show;
 
 use desk::Desk;
-use std::alloc::AllocError;
 use std::io::Read;
 
 // So many bytes of the script are read.
 const MOST: usize = 65536;
 
-// Reads the script, up to its end or to where it cannot be read, and takes it.
-fn main(rt: HostRuntime) -> Result<(), AllocError> {
-    let mut script = Vec::with_capacity(rt.alloc(), MOST)?;
-    let _ = rt.stdin().take(MOST as u64).read_to_end(&mut script);
-    let mut desk = Desk::new(rt.alloc(), rt.stdout())?;
-    desk.script(&script)
+// There is space for the largest area and a word more.
+const SPACE: usize = 262145;
+
+// Reads until the buffer is full, or the input ends or cannot be read, and answers what came.
+fn read_full<'a>(from: &mut impl Read, text: &'a mut [u8]) -> &'a [u8]
+    ensures { length result.now ≤ length text.old }
+{
+    let mut filled = 0;
+    for _ in 0..text.len() {
+        match from.read(&mut text[filled..]) {
+            Ok(count) if 0 < count => filled += count,
+            _ => break,
+        }
+    }
+    &text[..filled]
+}
+
+// Reads the script and takes it, on blank space.
+fn main(rt: HostRuntime) {
+    let mut text = [0; MOST];
+    let script = read_full(&mut rt.stdin(), &mut text);
+    let mut space = [flash::BLANK; SPACE];
+    Desk::new(rt.stdout(), &mut space).script(script);
 }
