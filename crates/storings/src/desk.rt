@@ -2,8 +2,7 @@
 use crate::command::Command;
 use crate::cuts::Cuts;
 use crate::lent::Lent;
-use crate::line::{Line, Loan};
-use arrayvec::ArrayVec;
+use crate::line::{Line, Loan, NUMBERS};
 use rules::Area;
 use std::io::Write;
 
@@ -50,7 +49,7 @@ impl<'a, W: Write + Drop> Desk<'a, W> {
             self.say(b"\n");
             return;
         }
-        let mut numbers = ArrayVec::new();
+        let mut numbers = [0; NUMBERS];
         let line = Line::read(text, &mut numbers);
         if let Some(loan) = line.loan() {
             self.loan = loan;

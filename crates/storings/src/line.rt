@@ -1,10 +1,9 @@
 // A line of the script.
 use crate::command::{Command, FULL, Request};
-use arrayvec::ArrayVec;
 use rules::Area;
 
 // So many numbers of a line count.
-const MOST: usize = 2048;
+pub const NUMBERS: usize = 2048;
 
 // What stands in a line, by the first letter of its name.
 #[derive(Clone, Copy)]
@@ -73,23 +72,26 @@ pub struct Loan {
     pub length: usize,
 }
 
-// A line's name, whether every cut is asked for, the power, and the numbers.
+// A line's name, whether every cut is asked for, the power, and the numbers: the first so many of those
+// that are lent.
 #[derive(Drop)]
 pub struct Line<'a> {
     name: Name,
     every: bool,
     pub power: u32,
-    numbers: &'a mut ArrayVec<u32, MOST>,
+    numbers: &'a mut [u32],
+    count: usize,
 }
 
 impl<'a> Line<'a> {
-    // Reads a line's tokens, which stand between blanks, and puts its numbers where there are none.
-    pub fn read(text: &[u8], numbers: &'a mut ArrayVec<u32, MOST>) -> Line<'a> {
+    // Reads a line's tokens, which stand between blanks, and puts its numbers into those that are lent.
+    pub fn read(text: &[u8], numbers: &'a mut [u32]) -> Line<'a> {
         let mut line = Line {
             name: Name::Delete,
             every: false,
             power: FULL,
             numbers,
+            count: 0,
         };
         for token in text.split(|&x| x == b' ') {
             line.token(token);
@@ -141,13 +143,20 @@ impl<'a> Line<'a> {
 
     // Puts a number behind the others, if there is room.
     fn push(&mut self, number: u32) {
-        let _ = self.numbers.try_push(number);
+        if let Some(place) = self.numbers.get_mut(self.count) {
+            *place = number;
+            self.count += 1;
+        }
     }
 
-    // Puts so many numbers behind the others, each a step more than the one before.
+    // Puts so many numbers behind the others, as far as there is room, each a step more than the one
+    // before.
     fn push_more(&mut self, count: u32, step: u32) {
-        let mut number = self.numbers.last().copied().unwrap_or(0);
+        let mut number = self.rest(0).last().copied().unwrap_or(0);
         for _ in 0..count {
+            if self.numbers.len() <= self.count {
+                return;
+            }
             number = number.wrapping_add(step);
             self.push(number);
         }
@@ -155,7 +164,7 @@ impl<'a> Line<'a> {
 
     // A number by its index, 0 if there is none.
     fn number(&self, index: usize) -> u32 {
-        self.numbers.get(index).copied().unwrap_or(0)
+        self.rest(0).get(index).copied().unwrap_or(0)
     }
 
     // A number of 64 bits by the indices of its halves, the upper one first.
@@ -175,7 +184,7 @@ impl<'a> Line<'a> {
 
     // The numbers behind the first few.
     fn rest(&self, few: usize) -> &[u32] {
-        self.numbers.as_slice().get(few..).unwrap_or(&[])
+        self.numbers.get(few..self.count).unwrap_or(&[])
     }
 
     // What the line lends, if it is of an area.
